@@ -141,7 +141,7 @@ def one_pit(study, rounds):
         best = min(best or (own / pit, own, pit), (own / pit, own, pit))
     share, own, pit = best
     print(
-        f"## One pit of {study.manifest['blocks']:,} blocks and at most {study.most_pairs:,} pairs\n\n| `pit solve` and `pit check`, CPU s | Python around them, CPU s | share |\n|---|---|---|"
+        f"## One pit of {study.manifest['blocks']:,} blocks and {study.pairs.count:,} pairs\n\n| `pit solve` and `pit check`, CPU s | Python around them, CPU s | share |\n|---|---|---|"
     )
     print(f"| {pit:.2f} | {own:.3f} | {100 * share:.1f} % |\n")
 

@@ -269,7 +269,7 @@ def measured(name):
     found = pd.DataFrame(rows)
     found.insert(0, "model", name)
     found.insert(1, "blocks", study.manifest["blocks"])
-    found.insert(2, "pairs", study.most_pairs)
+    found.insert(2, "pairs", study.pairs.count)
     return found.assign(**sizes, load=os.getloadavg()[0]).round(3)
 
 

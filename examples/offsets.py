@@ -1,11 +1,14 @@
 #!/usr/bin/env python3
-"""Writes the offsets of walls that are as steep as asked, as settings for `pit slopes --pattern settings`.
+"""Writes the offsets of walls that are as steep as asked, as settings for `pit`.
 
     python3 offsets.py XSIZE YSIZE ZSIZE SLOPE > slope.toml
+    python3 offsets.py XSIZE YSIZE ZSIZE SLOPE [SLOPE ..] --slopes > mine.toml
 
 The sizes are those of a block in metres, along x, y and upward. SLOPE is the overall slope in degrees from the
 horizontal, as 45, or slopes by bearing, as 0:45,90:45,180:38,270:45: the north wall is at 0, the east wall at 90, and
-between two bearings the slope changes evenly.
+between two bearings the slope changes evenly. Without --slopes the settings are `offsets`, which `pit slopes --pattern
+settings` takes for all blocks. With it they are `slopes`, by which each command finds predecessors from blocks and settings
+alone: a list for each SLOPE, the first for region 0.
 
 Offsets that the others imply are left out. Standard error says by how much the wall errs: on average over all bearings
 at most 0.5 degrees, and nowhere more than 1, or it says that this can't be held and what can. Python's standard library
@@ -89,12 +92,19 @@ def words():
     parser = argparse.ArgumentParser(
         description=__doc__.split("\n\n")[0],
         epilog="\n\n".join(__doc__.split("\n\n")[2:]),
-        usage="offsets.py XSIZE YSIZE ZSIZE SLOPE [OPTIONS]",
+        usage="offsets.py XSIZE YSIZE ZSIZE SLOPE [SLOPE ..] [OPTIONS]",
         formatter_class=argparse.RawDescriptionHelpFormatter,
     )
     for axis, way in ("XSIZE", "x"), ("YSIZE", "y"), ("ZSIZE", "z, upward"):
         parser.add_argument(axis, help="metres of a block along " + way)
-    parser.add_argument("SLOPE", help="degrees, or BEARING:SLOPE,BEARING:SLOPE,..")
+    parser.add_argument(
+        "SLOPE", nargs="+", help="degrees, or BEARING:SLOPE,BEARING:SLOPE,..; several of regions"
+    )
+    parser.add_argument(
+        "--slopes",
+        action="store_true",
+        help="write the slopes of a mine's regions, for every command, in place of offsets",
+    )
     parser.add_argument(
         "--rotation",
         metavar="DEGREES",
@@ -138,6 +148,20 @@ def said(offsets, pattern, given):
     )
 
 
+def settings_of_mine(offsets, asked, patterns, size):
+    """The slopes of a mine's regions. Which column says the region of a block is for the reader to add."""
+    names = ["region %d, %s degrees" % each for each in enumerate(asked)]
+    region = (
+        "# add a line `region = N`: the column of the .blocks file with the region of each block\n"
+    )
+    return (
+        "# in blocks of %g x %g x %g metres\n" % tuple(size)
+        + offsets.settings_by_region(dict(zip(names, patterns)))
+        + (region if len(patterns) > 1 else "")
+        + 'up = "plus"\n'
+    )
+
+
 def main():
     offsets, parser = search_module(), words()
     given = parser.parse_args()
@@ -146,18 +170,26 @@ def main():
             number(word, "the size of a block along %s" % axis, "12.5")
             for word, axis in zip((given.XSIZE, given.YSIZE, given.ZSIZE), "xyz")
         ]
-        wall = offsets.wall(size, slopes(given.SLOPE), number(given.rotation, "the rotation", "30"))
         if given.blocks < 0:
             raise ValueError("the model has %d blocks?" % given.blocks)
-        pattern = offsets.search(
-            wall, safe=given.safe, levels=given.levels, fits=offsets.within(given.blocks)
-        )
+        if len(given.SLOPE) > 1 and not given.slopes:
+            raise ValueError("several slopes are those of regions: add --slopes")
+        rotation = number(given.rotation, "the rotation", "30")
+        walls = [offsets.wall(size, slopes(word), rotation) for word in given.SLOPE]
+        fits = offsets.within(given.blocks)
+        patterns = [
+            offsets.search(wall, safe=given.safe, levels=given.levels, fits=fits) for wall in walls
+        ]
     except ValueError as error:
         parser.error(str(error))
-    print("# %s degrees in blocks of %g x %g x %g metres" % (given.SLOPE, *size))
-    print("# " + str(pattern))
-    print(offsets.settings(pattern), end="")
-    print(said(offsets, pattern, given), file=sys.stderr)
+    if given.slopes:
+        print(settings_of_mine(offsets, given.SLOPE, patterns, size), end="")
+    else:
+        print("# %s degrees in blocks of %g x %g x %g metres" % (*given.SLOPE, *size))
+        print("# " + str(patterns[0]))
+        print(offsets.settings(patterns[0]), end="")
+    for pattern in patterns:
+        print(said(offsets, pattern, given), file=sys.stderr)
 
 
 if __name__ == "__main__":

@@ -152,6 +152,7 @@ def build(folder: Path = STUDY) -> None:
     print_regions(plan.slopes, model)
     tell_strange(looks(model, study.priced.first(len(model)), plan))
     print_patterns(plan.slopes, study.model.grid, study.model.units.length)
+    tell_strange(list(study.pairs.strange()))
     _set_aside(study, key_of(plan.slopes, study.model.grid))
     _print_size(study, plan)
 
@@ -234,7 +235,7 @@ def _print_size(study: Study, plan: StudyFile) -> None:
     count = len(plan.factors)
     workers = workers_for(study)
     say(
-        f"at most {guess.pairs:,} pairs of a block and a predecessor. A pit will take about"
+        f"{study.pairs}. A pit will take about"
         f" {guess.memory / 1e6:,.0f} MB and {duration(guess.seconds)}; all {count}, {workers} at a"
         f" time, {duration(guess.seconds * count / workers)}"
     )

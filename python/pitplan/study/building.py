@@ -5,7 +5,7 @@ import hashlib
 import json
 import os
 from collections.abc import Mapping
-from dataclasses import dataclass, field, replace
+from dataclasses import asdict, dataclass, field, replace
 from pathlib import Path
 from typing import Any
 
@@ -21,9 +21,11 @@ from ..model.economics import Economics
 from ..model.model import Model
 from ..model.subblocks import coded
 from ..pit.program import Pit
+from ..slopes.listed import offsets_listed
 from ..slopes.slopes import Slopes
 from ..slopes.steep_ground import with_air
 from .folder import READ
+from .pairs import counted_pairs
 
 _WAY = ("revenue", "processing")  # the columns of each way to treat a block
 _AFTER = ("mining", "tonnes")  # those behind them
@@ -74,15 +76,24 @@ class Building:
         self.folder.mkdir(parents=True, exist_ok=True)
         sweep(self.folder, ".model.*")
         with made_whole(self.folder / "model") as work:
-            write_blocks(work / "mine.blocks", model, priced, region if len(names) > 1 else None)
+            digest = write_blocks(
+                work / "mine.blocks", model, priced, region if len(names) > 1 else None
+            )
             (work / "settings.toml").write_text(
                 _settings_text(len(priced.ways))
                 + slopes.settings(model.grid, _column_of_regions(len(priced.ways)))
             )
             store.save(work / "blocks.npz", model, priced, region)
-            files = {path.name: sha256(path) for path in sorted(work.iterdir())}
+            files = {
+                path.name: digest if path.name == "mine.blocks" else sha256(path)
+                for path in sorted(work.iterdir())
+            }
             counts = np.bincount(region, minlength=len(names)).tolist()
-            manifest = self._manifest(model, files, dict(zip(names, counts)))
+            listed = offsets_listed((work / "settings.toml").read_text())
+            manifest = {
+                **self._manifest(model, files, dict(zip(names, counts))),
+                "pairs": asdict(counted_pairs(model.index, region, listed)),
+            }
             (work / "manifest.json").write_text(json.dumps(manifest, indent=1))
 
     def _manifest(
@@ -154,16 +165,16 @@ def _settings_text(ways: int) -> str:
     return f"ways = [{', '.join(each)}]\n{after}"
 
 
-def write_blocks(path: Path, model: Model, priced: Priced, region: Ints | None = None) -> None:
+def write_blocks(path: Path, model: Model, priced: Priced, region: Ints | None = None) -> str:
     """`.blocks`: number, place, revenue and processing of each way, mining, all exact decimals,
-    tonnes, and each block's region of slopes, where there are several."""
+    tonnes, and each block's region of slopes, where there are several. Gives the file's digest."""
     b = model.blocks
     amounts = {
         f"{name} {number}": as_text(getattr(way, name), priced.rounding)
         for number, way in enumerate(priced.ways)
         for name in _WAY
     }
-    write_numbers(
+    return write_numbers(
         path,
         {
             "b": np.arange(len(b)),
@@ -178,11 +189,15 @@ def write_blocks(path: Path, model: Model, priced: Priced, region: Ints | None =
     )
 
 
-def write_numbers(path: Path, columns: Mapping[str, Any]) -> None:
-    """Columns of numbers as `pit` reads them: a line for each row, and a blank between two."""
+def write_numbers(path: Path, columns: Mapping[str, Any]) -> str:
+    """Columns of numbers as `pit` reads them: a line for each row, and a blank between two. Gives
+    the SHA-256 of the bytes as they were written, so that the file isn't read for it."""
     arrays = [np.asarray(column) for column in columns.values()]
-    line = " ".join(["%s"] * len(arrays)) + "\n"
-    with open(path, "w") as file:
+    line, digest = " ".join(["%s"] * len(arrays)) + "\n", hashlib.sha256()
+    with open(path, "wb") as file:
         for at in range(0, len(arrays[0]), ROWS):
             rows = zip(*(array[at : at + ROWS].tolist() for array in arrays))
-            file.write("".join([line % row for row in rows]))
+            text = "".join([line % row for row in rows]).encode("ascii")
+            digest.update(text)
+            file.write(text)
+    return digest.hexdigest()

@@ -4,9 +4,10 @@ from __future__ import annotations
 from collections.abc import Callable, Iterator
 from concurrent.futures import ThreadPoolExecutor
 from contextlib import contextmanager
+from dataclasses import fields
 from functools import cached_property
 from pathlib import Path
-
+from typing import Any
 
 from ..base import kept_json
 from ..base.amounts import Priced
@@ -21,8 +22,10 @@ from ..pit.program import Files, Pit
 from ..slopes.listed import offsets_listed
 from ..slopes.offsets import Offset
 from . import edges
+from .pairs import PairCounts, counted_pairs
 
 _IS_WORDS = kept_json.is_list(kept_json.is_word)
+_IS_PAIRS = kept_json.is_one({each.name: kept_json.is_count for each in fields(PairCounts)})
 READ = ("mine.blocks", "settings.toml")
 _OLDER = "mine.prec"  # what a build of an older version left: a list of all pairs
 # What manifest.json and a verdict have at least, and what each may be. A file of the model lies
@@ -136,12 +139,14 @@ class StudyFolder:
             ) from None
         return dict(zip(names, listed))
 
-    @property
-    def most_pairs(self) -> int:
-        """How many pairs of a block and a predecessor there are at most: a block has as many
-        predecessors as its region has offsets, and fewer at a side of the model."""
-        counts: dict[str, int] = self.manifest["regions"]
-        return sum(counts[name] * len(listed) for name, listed in self.offsets.items())
+    @cached_property
+    def pairs(self) -> PairCounts:
+        """The pairs of a block and a predecessor, as the build counted them; of a study whose build
+        counted none they are counted now."""
+        counted: Any = self.manifest.get("pairs")
+        if _IS_PAIRS(counted):
+            return PairCounts(**counted)
+        return counted_pairs(self.model.index, self.region, list(self.offsets.values()))
 
     @cached_property
     def model(self) -> Model:

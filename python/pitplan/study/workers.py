@@ -32,9 +32,9 @@ class _Guess:
 
 
 def guess_of(study: Runs) -> _Guess:
-    """A first guess by the number of blocks and by how many pairs they have at most; how long a
-    mine takes depends on the mine."""
-    blocks, pairs = study.manifest["blocks"], study.most_pairs
+    """A first guess by the number of blocks and of their pairs; how long a mine takes depends on
+    the mine."""
+    blocks, pairs = study.manifest["blocks"], study.pairs.count
     return _Guess(
         pairs, memory_of(blocks, pairs), blocks * _SECONDS_A_BLOCK + pairs * _SECONDS_A_PAIR
     )

@@ -182,7 +182,7 @@ class Tasks:
 
 def memory_of_task(study: Study) -> int:
     """Bytes of memory that a task over a study takes at most, about."""
-    return memory_by_size(int(study.manifest["blocks"]), study.most_pairs)
+    return memory_by_size(int(study.manifest["blocks"]), study.pairs.count)
 
 
 def memory_by_size(blocks: int, pairs: int) -> int:

@@ -1,8 +1,10 @@
 """The search for offsets: against plain sums, against hulls by shapely, and against the pit that `pit` finds in a deep model."""
 import math
+import os
 import shutil
 import subprocess
 import sys
+import tomllib
 from fractions import Fraction
 from pathlib import Path
 
@@ -420,6 +422,32 @@ def test_steeper_by_less_than_a_millionth_is_as_steep():
     for tangent, is_steep in ((1.0000005, False), (1.000003, True)):
         off = math.degrees(math.atan(tangent)) - 45
         assert search.Error(0.1, 0, off, -0.1).is_too_steep is is_steep
+
+
+def test_the_script_writes_slopes_of_regions(tmp_path):
+    """A list for each slope, as `pit` reads them beside blocks; what is told of each wall comes on standard error."""
+    words = [sys.executable, SCRIPT, "20", "20", "10", "44", "0:34,180:40"]
+    refused = subprocess.run(words, capture_output=True, text=True)
+    assert refused.returncode == 2
+    assert refused.stderr.endswith("several slopes are those of regions: add --slopes\n")
+    ran = subprocess.run([*words, "--slopes"], capture_output=True, text=True, check=True)
+    patterns = [
+        search.search(search.wall((20, 20, 10), angles)) for angles in (44, [(0, 34), (180, 40)])
+    ]
+    assert ran.stderr.splitlines() == [str(pattern) for pattern in patterns]
+    assert tomllib.loads(ran.stdout) == {
+        "slopes": [[list(offset) for offset in pattern.offsets] for pattern in patterns],
+        "up": "plus",
+    }
+    assert "add a line `region = N`" in ran.stdout
+    (tmp_path / "two.toml").write_text(ran.stdout + "region = 0\n")
+    (tmp_path / "two.blocks").write_text("0 3 3 0 1\n1 3 3 1 0\n2 3 4 1 0\n3 4 4 1 1\n")
+    pit = [os.environ["PIT"], "slopes", "--pattern", "settings"]
+    files = ["--blocks", tmp_path / "two.blocks", "--settings", tmp_path / "two.toml"]
+    made = subprocess.run([*pit, *files], capture_output=True, text=True, check=True)
+    at = {(0, 0, 1): 1, (0, 1, 1): 2, (1, 1, 1): 3}
+    above = [at[offset] for offset in patterns[1].offsets if offset in at]
+    assert made.stdout.splitlines()[0] == " ".join(map(str, [0, len(above), *sorted(above)]))
 
 
 def test_a_copied_script_finds_an_installed_pitplan(tmp_path):

@@ -1,4 +1,5 @@
 """The files that `pit` reads, as a study is built: numbers as pandas spells them."""
+import hashlib
 from decimal import Decimal
 
 import numpy as np
@@ -30,8 +31,10 @@ def test_numbers_are_written_as_pandas_writes_them(tmp_path_factory, found, piec
     }
     before, building.ROWS = building.ROWS, piece
     try:
-        building.write_numbers(folder / "ours", columns)
+        digest = building.write_numbers(folder / "ours", columns)
     finally:
         building.ROWS = before
     pd.DataFrame(columns).to_csv(folder / "pandas", sep=" ", header=False, index=False)
-    assert (folder / "ours").read_bytes() == (folder / "pandas").read_bytes()
+    text = (folder / "pandas").read_bytes()
+    assert (folder / "ours").read_bytes() == text
+    assert digest == hashlib.sha256(text).hexdigest()

@@ -5,7 +5,6 @@ import re
 import os
 import shutil
 import signal
-import tomllib
 from contextlib import nullcontext
 
 import numpy as np
@@ -572,13 +571,11 @@ def test_the_whole_memory_is_that_of_the_machine_or_of_a_group(tmp_path, own, fi
 def test_workers_go_by_free_memory(tmp_path, monkeypatch):
     study = study_of(tmp_path, table(6, 5, 4, 3))
     need = workers.guess_of(study).memory
-    assert need == workers.memory_of(len(study.model), study.most_pairs)
+    assert need == workers.memory_of(len(study.model), study.pairs.count)
     for free, wanted, most in ((need * 10, 3, 3), (need * 10, 64, 8), (need, 3, 1), (0, 3, 1)):
         monkeypatch.setattr(workers, "free_memory", lambda free=free: free)
         assert workers.workers_for(study, wanted) == most
-    told = tomllib.loads(study.settings_file.read_text())
-    assert workers.guess_of(study).pairs == len(study.model) * len(told["slopes"][0])
-    assert workers.guess_of(study).pairs > len(pairs_of(study.where))  # sides have fewer
+    assert workers.guess_of(study).pairs == len(pairs_of(study.where))
 
 
 def test_forbidden_blocks_stay(tmp_path):

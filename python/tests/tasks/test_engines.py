@@ -3,6 +3,7 @@ import os
 import shutil
 import signal
 import subprocess
+from types import SimpleNamespace
 
 import pandas as pd
 import pytest
@@ -147,12 +148,12 @@ def test_memory_is_asked_by_the_size_of_the_model(tmp_path, monkeypatch):
         measured.step == "pit"
     ].itertuples():  # no less than it took, and no more than half as much again beyond a process alone
         study.manifest["blocks"] = row.blocks
-        monkeypatch.setattr(type(study), "most_pairs", row.pairs)
+        monkeypatch.setattr(study, "pairs", SimpleNamespace(count=row.pairs))
         assert (
             row.memory_mb < engines.megabytes(study) / engines.SPARE < 1.5 * row.memory_mb + 200
         ), row
     study.manifest["blocks"] = 10_000_000
-    monkeypatch.setattr(type(study), "most_pairs", 49_000_000)
+    monkeypatch.setattr(study, "pairs", SimpleNamespace(count=49_000_000))
     assert small < 400
     assert 7_000 < engines.megabytes(study) < 12_000
     script = engines.slurm_script(study, 12, "submit/1", engines.Limits(30, 5))
