@@ -17,6 +17,7 @@ from ..base.arrays import Array, Bools, Indices
 from ..base.errors import NotAccepted, PlanError
 from ..base.next_command import command
 from ..pit.scheduled import Scheduled
+from ..study.pit_by_pit import Rates
 from .ends import End
 from .judged import judged
 from .production import Production, feeds_of, production_of
@@ -291,6 +292,10 @@ def production_for(
     at = shells.factors.index(THOUSAND)
     held = shells.holds(at)
     tonnes = study.model.blocks.tonnes.to_numpy(float)
+    if names := study.priced.names:
+        told = values.get("process_rates") or rates.get("process_rates") or {}
+        of = Rates(processes=dict(told)).of(names)  # by name, in the order of the processes
+        values = {**values, "process_rates": dict(of.processes)}
     feeds = [float(each[held].sum()) for each in feeds_of(study)]
     terms = terms_of(values, rates, float(tonnes[held].sum()), feeds)
     return production_of(shells, terms, at)

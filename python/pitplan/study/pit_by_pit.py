@@ -2,7 +2,7 @@
 from __future__ import annotations
 
 from collections.abc import Mapping, Sequence
-from dataclasses import dataclass, field
+from dataclasses import dataclass, field, replace
 from decimal import Decimal
 from typing import TYPE_CHECKING, Any
 
@@ -11,8 +11,8 @@ import pandas as pd
 
 from ..base.amounts import THOUSAND, exact_sum
 from ..base.arrays import Array, Bools, Floats, Shorts
-from ..base.errors import PlanError
-from ..table.study_keys import refuse_wrong
+from ..base.errors import PlanError, meant
+from ..table.study_keys import PROCESSES, refuse_wrong
 
 if TYPE_CHECKING:
     from .shells import Shells
@@ -47,6 +47,36 @@ class Rates:
             "shells",
             {"mining_rate": self.mining, "mill_rate": self.mill, "discount": self.discount},
         )
+
+        for name, rate in self.processes.items():
+            at = ("economics", PROCESSES, name)
+            refuse_wrong(PROCESSES, {"rate": rate}, f"[economics] process {name}", at)
+
+    def of(self, names: Sequence[str]) -> Rates:
+        """With a rate of each of several processes, in their order; None where it isn't told.
+
+        Parameters
+        ----------
+        names : sequence of str
+            Those of the processes; none where there is one.
+
+        Raises
+        ------
+        PlanError
+            Where a rate is that of another process, or of a mill.
+        """
+        strange = [name for name in self.processes if names and name not in names]
+        if strange:
+            said = f"a rate is told of {strange[0]!r}, and no process is called so"
+            raise PlanError(said + meant(strange[0], names), try_this=", ".join(names))
+        if names and self.mill is not None:
+            raise PlanError(
+                f"a rate is told of a mill, and there are processes: {', '.join(names)}",
+                try_this="process_rates in place of mill_rate",
+            )
+        if not names:
+            return self
+        return replace(self, processes={name: self.processes.get(name) for name in names})
 
     @property
     def named(self) -> list[tuple[str, float | None]]:
@@ -236,7 +266,7 @@ def table(shells: Shells, base: int, rates: Rates) -> pd.DataFrame:
         table has resource classes, those of `Cells.by_class`.
     """
     p, c = shells.study.priced, Cells.of(shells, base)
-    rates = rates.over(float(c.rock.sum()), c.fed(()))
+    rates = rates.of(p.names).over(float(c.rock.sum()), c.fed(()))
     rows, worths = [], _worths_of(shells, base)
     for i, factor in enumerate(shells.factors):
         rock, ore = float(c.rock[: i + 1].sum()), float(c.ore[: i + 1].sum())

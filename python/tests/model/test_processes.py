@@ -186,6 +186,34 @@ def test_a_metals_own_recovery_and_payable_count_where_a_process_says_nothing():
     assert [way.revenue.tolist() for way in priced.ways] == [[400], [200], [800]]
 
 
+def test_what_may_not_be_dug_costs_more_than_the_best_processes_bring():
+    """At the largest factor, 10 times the price; the second process recovers nearly all."""
+    frame = table(5, 5, 3, 4)
+    processes = (
+        pp.Process("poor", 1.0, recovery={"copper": 0.01}),
+        pp.Process("rich", 1.0, recovery={"copper": 0.9}),
+    )
+    economics = costs(processing=None, processes=processes, forbid=["XC > 5030 and ZC < 140"])
+    model = mines.model_of(frame)
+    priced = economics.priced(model)
+    rows = frame.set_index("IJK").to_dict("index")
+    brings = sum(
+        round(rows[name]["TONNES"] * rows[name]["CU"] / 100 * 0.9 * 8500)
+        for name in model.blocks.id
+    )
+    assert priced.forbidden.any()
+    assert (priced.mining[priced.forbidden] > 10 * brings).all()
+    assert priced.worth_unfenced(1000)[priced.forbidden] == pytest.approx(
+        [
+            max(0, round(t * cu / 100 * 0.9 * 8500) - round(t)) - round(2 * t)
+            for t, cu in (
+                (rows[name]["TONNES"], rows[name]["CU"])
+                for name in model.blocks.id[priced.forbidden]
+            )
+        ]
+    )
+
+
 @pytest.mark.parametrize(
     "more, said",
     [

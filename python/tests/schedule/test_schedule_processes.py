@@ -12,6 +12,7 @@ from pitplan import PlanError, Study
 from pitplan.audit.bundle import write_bundle
 from pitplan.plans import vary
 from pitplan.schedule import Schedule
+from pitplan.schedule.plan import production_for
 from pitplan.schedule.tables import Tables, binds_text
 from pitplan.schedule.terms import terms_of
 from pitplan.schedule.what_ifs import _changed_terms
@@ -157,6 +158,19 @@ def test_years_are_as_many_as_the_slowest_process_needs():
     rates = {"process_rates": {"mill": 400.0, "leach": 100.0}, "mining_rate": 1000.0}
     assert terms_of({}, rates, 1000, [800, 350]).periods == 1 + 4  # 3.5 years of leaching
     assert terms_of({}, rates, 1000, [2200, 350]).periods == 1 + 6  # 5.5 of milling
+
+
+def test_rates_go_by_name_and_not_by_order(found):
+    """A plan's capacities are those of its own processes, however they are told."""
+    values = {"years": 6, "mining_rate": [600e3, 500e3]}
+    for told in ({"leach": 120e3, "mill": 250e3}, {"mill": 250e3, "leach": 120e3}):
+        made = production_for(found.shells, values, {"process_rates": told, "discount": 0.08})
+        assert (made.capacities == found.production.capacities).all()
+        assert made.key == found.production.key
+    made = production_for(found.shells, values, {"discount": 0.08})
+    assert (made.capacities[1:] == made.uses[1:].sum(axis=1)[:, None]).all()  # nothing limits these
+    with pytest.raises(PlanError, match="no process is called so"):
+        production_for(found.shells, values, {"process_rates": {"heap": 1.0}})
 
 
 def test_what_ifs_of_the_rate_of_a_process():

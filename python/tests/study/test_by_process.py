@@ -94,6 +94,25 @@ def test_each_process_has_its_own_rate(shells, rows):
     )
 
 
+def test_rates_go_by_name_and_not_by_order(shells):
+    """Also where one isn't told, or none is."""
+    rates = {"mill": 250e3, "leach": 12e3}
+    asked = dict(mining_rate=600e3, discount=0.08)
+    first = shells.table(**asked, process_rates=rates)
+    other = shells.table(**asked, process_rates=dict(reversed(rates.items())))
+    assert (first.npv_best == other.npv_best).all()
+    fifteen = shells.table(**asked)  # the largest pit's feed in 15 years, of each
+    for name in NAMES:
+        rates = {name: fifteen[f"process_{name}_feed_t"].iloc[-1] / 15}
+        assert (shells.table(**asked, process_rates=rates).npv_best == fifteen.npv_best).all()
+    with pytest.raises(pp.PlanError, match="a rate is told of 'heap', and no process"):
+        shells.table(process_rates={"heap": 1e5})
+    with pytest.raises(pp.PlanError, match="a rate is told of a mill, and there are processes"):
+        shells.table(mill_rate=1e5)
+    with pytest.raises(pp.PlanError, match="process leach rate is -1"):
+        shells.table(process_rates={"leach": -1})
+
+
 def test_each_bench_and_the_reserves_are_what_the_rows_come_to(shells, rows):
     for _, line in shells.benches().iterrows():
         shell = shells.factors.index(round(line.shell * 1000))
