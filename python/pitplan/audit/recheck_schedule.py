@@ -382,11 +382,11 @@ def cone_periods(periods: Periods, order: list[int], above: list[set[int]]) -> l
 
 
 def least_uses(periods: Periods, units: int) -> Rows:
-    """What each unit uses of rock and feed whichever way its blocks go."""
+    """What each unit uses of rock and of each feed whichever way its blocks go."""
     found = [[0] * units for _ in periods.uses]
     for block, unit in periods.unit.items():
-        found[0][unit] += periods.uses[0][block]
-        found[1][unit] += 0 if chooses(periods) else periods.uses[1][block]
+        for resource, uses in enumerate(periods.uses):
+            found[resource][unit] += uses[block] if not resource or not chooses(periods) else 0
     return found
 
 

@@ -105,6 +105,22 @@ def test_the_bundles_checker_adds_it_up_again(found):
     assert Decimal(npv.replace(",", "")) == found.npv
 
 
+@pytest.mark.parametrize("more", ["panel = 2\n", "pushbacks = [0.6]\nlead = 2\nsink = 3\n"])
+def test_the_bundles_checker_counts_the_cones_of_each_process(tmp_path, more):
+    """The leach is so slow that the cones of its feed keep units out of the first years."""
+    text = two_ways.TEXT.replace("rate = 120e3", "rate = 20e3")
+    plan = read_study_file(two_ways.written(tmp_path, TERMS + more, text))
+    Study.create(tmp_path, plan.read_model(), plan.economics, plan.slopes, None, plan.digest)
+    shells, told = Study(tmp_path).shells(plan.factors), plan.values["schedule"]
+    made = Schedule.of(shells, told, plan.rates, (0.1, 120))
+    assert made.production.capacities[2].tolist() == [20_000_000] * 6
+    dialect = plan.keys.dialect(plan.table)
+    write_bundle(shells, tmp_path / "bundle", plan.path, dialect, plan.rates, told)
+    status, said = checked(tmp_path / "bundle")
+    assert status == 0, said
+    assert str(made.npv).split(".")[0] in said.replace(",", "")
+
+
 def of_file(name, was, now):
     def change(bundle):
         path = bundle / name
