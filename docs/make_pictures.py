@@ -94,7 +94,7 @@ def walked(study):
     years, _, by_year = pitplan("schedule", study)
     pitplan("compare", study, "--surface", TOP / "examples/hill-design.dxf", may_refuse=True)
     design = next((study / "out/compare-hill-design").glob("plan-*.png"))
-    pitplan("phases", "0.4,1.0", study, "--widen", "40")
+    pitplan("phases", study, "0.4,1.0", "--widen", "40")
     pages = pitplan(
         "page", study, "--phases", "0.4,1.0", "--design", TOP / "examples/hill-design.dxf"
     )

@@ -23,7 +23,7 @@ import json
 import os
 import sys
 import time
-from collections.abc import Callable, Iterator
+from collections.abc import Callable, Iterator, Mapping, Sequence
 from contextlib import contextmanager, suppress
 from dataclasses import dataclass, field
 from pathlib import Path
@@ -75,6 +75,22 @@ def _also(path: Path, mode: str = "w") -> None:
 def begin() -> None:
     """Says which command begins."""
     event("begin", command=words(), pid=os.getpid(), host=os.uname().nodename)
+
+
+def progress(told: Sequence[Mapping[str, Any]], commands: Sequence[str]) -> dict[str, Any]:
+    """How far a run of several commands is by its events: which of these it is at, what is told of
+    it, and how many of how many parts are done."""
+    begun = [at for at, each in enumerate(told) if each["event"] == "begin"]
+    now = told[begun[-1] :] if begun else told
+    latest = {str(each["event"]): each for each in now}
+    pits = [each for each in now if each["event"] == "pit"]
+    done = {each["factor"] for each in pits if each["state"] in ("proved", "done")}
+    of = latest.get("task", latest.get("pit", {})).get("of", 0)
+    count = latest["task"]["done"] if "task" in latest else len(done)
+    what = str(latest.get("step", {}).get("what", "begins"))
+    if of:
+        what = f"{count} of {of}" + ("" if "task" in latest else " pits proved")
+    return {"command": commands[max(len(begun) - 1, 0)], "what": what, "at": count, "of": of}
 
 
 @contextmanager

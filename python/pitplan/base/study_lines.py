@@ -17,6 +17,27 @@ _NOT_THERE = (
     StopIteration,
     NotImplementedError,
 )
+_TABLE = re.compile(r"\s*\[+\s*(\w+)\s*(?:\.\s*(\w+)\s*)?\]")
+_BEGINS = re.compile(r"(\w+)\s*=")
+# what stands before a comment: no mark within quotes begins one
+_BARE = re.compile(r"""(?:[^"'#]|"(?:\\.|[^"\\])*"|'[^']*')*""")
+
+
+def lines_of(text: str) -> list[dict[str, str]]:
+    """Each line of a text: the section and the key that it belongs to, what it says, and its comment.
+
+    >>> lines_of('[slopes]\\nangles = 45  # degrees')[1]
+    {'section': 'slopes', 'key': 'angles', 'said': 'angles = 45  ', 'comment': '# degrees'}
+    """
+    section, each, found = "", "", []
+    for line in text.splitlines():
+        if header := _TABLE.match(line):
+            section, each = header[1], header[2] or ""  # as [[economics.processes]]
+        begins, bare = _BEGINS.match(line), _BARE.match(line)
+        key, end = each or (begins[1] if begins else ""), bare.end() if bare else 0
+        told = {"section": section, "key": key, "said": line[:end], "comment": line[end:]}
+        found.append(told)
+    return found
 
 
 def line_of(text: str, path: KeyPath) -> tuple[int, str] | None:

@@ -84,27 +84,6 @@ def print_patterns(slopes: Slopes, grid: Grid, unit: str) -> None:
 
 def _print_angles(table: pd.DataFrame, every: int) -> None:
     """The table of asked and built angles."""
-    regions = list(dict.fromkeys(table.region))
-    names = [
-        "bearing",
-        *(
-            column if len(regions) == 1 else f"{name} {column}"
-            for name in regions
-            for column in ("asked", "built", "error")
-        ),
-    ]
-    lines = []
-    for bearing, rows in table.groupby("bearing"):
-        if bearing % every == 0:
-            by_region = rows.set_index("region")
-            lines.append(
-                (
-                    str(bearing),
-                    *(
-                        f"{round(by_region.at[name, column], 1) + 0.0:{sign}.1f}"
-                        for name in regions
-                        for column, sign in (("asked", ""), ("built", ""), ("error", "+"))
-                    ),
-                )
-            )
-    print_columns("degrees of the wall at a bearing", names, lines)
+    from ..slopes.slopes import walls_of
+
+    print_columns("degrees of the wall at a bearing", *walls_of(table, every))

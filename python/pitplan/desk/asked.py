@@ -48,15 +48,15 @@ class Commands:
                 return pits
             case "all":
                 return [["build"], *pits]
+            case "schedule":
+                return [["schedule", *_numbers(asked, "gap", "minutes", "mining_width")]]
             case "risk":
                 return [["risk", "--schedule"]]
             case "page":
                 page = self._page(self._latest("phases"), self._latest("compare"))
                 return [page + _flag("schedule", asked)]
             case "phases":
-                width = asked.get("width")
-                more = ["--mining-width", _number(width)] if width else []
-                cut = ["phases", _shares(asked["factors"]), *more]
+                cut = ["phases", _shares(asked["factors"]), *_numbers(asked, "mining_width")]
                 return [cut, self._page(asked, self._latest("compare"))]
             case "compare":
                 kind = "--ids" if asked.get("as") == "ids" else "--surface"
@@ -84,11 +84,8 @@ class Commands:
     def _page(self, cut: _Asked | None, design: _Asked | None) -> _Words:
         """The page of the pits, with pushbacks and a design."""
         cuts = ["--phases", _shares(cut["factors"])] if cut else []
-        return [
-            "page",
-            *cuts,
-            *(["--design", self._design(design), *_factor(design)] if design else []),
-        ]
+        beside = ["--design", self._design(design), *_factor(design)] if design else []
+        return ["page", *cuts, *beside]
 
     def _latest(self, what: str) -> _Asked | None:
         """What was asked for last, where that is of the model that stands there."""
@@ -128,6 +125,12 @@ def _kinds(asked: _Asked) -> _Words:
 def _flag(key: str, asked: _Asked, option: str = "") -> _Words:
     """An option without a value, where it is asked for."""
     return [option or f"--{key}"] if asked.get(key) is True else []
+
+
+def _numbers(asked: _Asked, *keys: str) -> _Words:
+    """Options with a number, where they are asked for."""
+    told = [(f"--{key}".replace("_", "-"), asked[key]) for key in keys if key in asked]
+    return [word for option, value in told for word in (option, _number(value))]
 
 
 def _factor(asked: _Asked) -> _Words:

@@ -3,6 +3,7 @@ from __future__ import annotations
 
 import asyncio
 import inspect
+import itertools
 import json
 import math
 import os
@@ -23,8 +24,9 @@ from starlette.routing import Route
 from ..base import events
 from ..base.errors import PlanError
 from ..base.files import put_aside, whole_file, write_json
+from ..base.study_lines import lines_of
 from ..study import turns
-from ..table.study_keys import KEYS, METALS
+from ..table.study_keys import KEYS, LISTS
 from . import runs, toml_text
 from .asked import Commands
 from .folder import BUNDLE, DESIGNS, HOME, TABLES, Folder, Refused, etag, refusal, writing
@@ -54,6 +56,7 @@ class Desk:
     def routes(self) -> list[Route]:
         """All of them."""
         at = "/api/studies/{study}"
+        run = at + "/runs/{number:int}"
         table: list[tuple[str, str, _Answer]] = [
             ("GET", "/api/folder", self.home),
             ("PUT", "/api/tables/{name}", self.upload),
@@ -69,15 +72,9 @@ class Desk:
             ("GET", at + "/cells", self.asks(self.heavy, "cells", "row")),
             ("PUT", at + "/designs/{name}", self.upload),
             ("POST", at + "/commands", self.typed),
-            ("GET", at + "/runs", self.of_study(lambda it: [_shown(run) for run in runs.of(it)])),
             ("POST", at + "/runs", self.start),
-            ("GET", at + "/runs/{number:int}", self.of_run(_run_from)),
-            (
-                "DELETE",
-                at + "/runs/{number:int}",
-                self.of_run(lambda it, _: {"stopped": runs.stop(it)}),
-            ),
-            ("GET", at + "/files", self.of_study(self.folder.results)),
+            ("GET", run, self.of_run(_run_from)),
+            ("DELETE", run, self.of_run(lambda it, _: {"stopped": runs.stop(it)})),
             ("GET", "/files/{study}/{path:path}", self.file),
             ("GET", "/manual/{path:path}", page_of),
             ("GET", "/{name:path}", _own),
@@ -123,7 +120,7 @@ class Desk:
             {"name": name, **await self.quick("overview", self.folder.root / name)}
             for name in self.folder.studies()
         ]
-        keys = [{**asdict(key), "must": key.must} for key in KEYS]
+        keys = [{**asdict(key), **key.form} for key in KEYS]
         tables = self.folder.tables()
         told = {"studies": found, "tables": tables, "keys": keys, "manual": address()}
         return {"folder": str(self.folder.root), **told}
@@ -170,13 +167,16 @@ class Desk:
     async def begin(self, request: Request) -> Any:
         """A study over a table, as `pitplan init`; or a copy of a study's study.toml."""
         asked = await _told_in(request)
+        if "copy" in asked:
+            name = str(asked["copy"])
+            text = (self.folder.study(name) / "study.toml").read_bytes()
+            names = (f"{name}-{n}" for n in itertools.count(2))
+            name = next(it for it in names if not self.folder.place(it).exists())
+            _write(self.folder.new_study(name) / "study.toml", text)
+            return {"study": name}
         table = str(asked.get("table", ""))
         name = str(asked.get("name") or re.sub(r"(?i)(\.csv)?(\.gz)?$", "", table))
         study = self.folder.new_study(name)
-        if "copy" in asked:
-            text = (self.folder.study(str(asked["copy"])) / "study.toml").read_bytes()
-            _write(study / "study.toml", text)
-            return {"study": name}
         columns = {str(key): str(value) for key, value in dict(asked.get("columns", {})).items()}
         encoding = str(asked.get("encoding") or "") or None
         return await self.heavy("begin", study, self.folder.file(table, TABLES), columns, encoding)
@@ -196,6 +196,8 @@ class Desk:
             outside = [{**refused.told["errors"][0], "key": ["model", "table"]}]
         designs = sorted(it.name for it in (study / "designs").glob("[!.]*"))
         told = {"name": study.name, "text": text, "values": values, "outside": outside}
+        told["lines"] = lines_of(text)
+        told |= {"runs": list(map(_shown, runs.of(study))), "files": self.folder.results(study)}
         state = await self.quick("overview", study)
         return {**told, "state": state, "designs": designs, "pulse": pulse}
 
@@ -205,10 +207,10 @@ class Desk:
         path, kept = study / "study.toml", None
         with writing(study):
             before = path.read_bytes()
-            if "text" in asked:
+            if "etag" in asked:
                 if etag(before) != asked["etag"]:
                     raise _stale("study.toml", study)
-                new = str(asked["text"]).encode()
+                new = _text_of(asked, study)
                 kept = put_aside(path).name if asked.get("keeps") else None
             else:
                 new = _changed(before, asked["changes"], study)
@@ -243,11 +245,7 @@ class Desk:
         """A route that has a function of a run answer."""
 
         async def answer(request: Request) -> _Told:
-            number, found = request.path_params["number"], runs.of(self.named(request))
-            for run in found:
-                if run["number"] == number:
-                    return do(run, request)
-            raise Refused(404, f"there is no run {number}")
+            return do(_numbered(self.named(request), request.path_params["number"]), request)
 
         return answer
 
@@ -275,10 +273,8 @@ def _sent(path: Path, kind: str | None, called: str) -> FileResponse:
     how = "inline" if kind else "attachment"
     name = re.sub(r"[^\w .+-]", "_", called.replace("/", "-"), flags=re.ASCII)
     name += "" if path.suffix else ".txt"
-    headers = {
-        "content-security-policy": SANDBOX,
-        "content-disposition": f'{how}; filename="{name}"',
-    }
+    told = f'{how}; filename="{name}"'
+    headers = {"content-security-policy": SANDBOX, "content-disposition": told}
     return FileResponse(path, media_type=kind or "application/octet-stream", headers=headers)
 
 
@@ -288,11 +284,18 @@ def _who(asked: _Told) -> str:
     return said.strip() or "somebody"
 
 
+def _text_of(asked: _Told, study: Path) -> bytes:
+    """The text that is asked for: that of a run of before, or one that is told."""
+    if "text" in asked:
+        return str(asked["text"]).encode()
+    return Path(_numbered(study, int(asked["run"]))["folder"], "study.toml").read_bytes()
+
+
 def _labelled(conflict: toml_text.Conflict) -> str:
     """A key as its field is called, and as study.toml has it."""
     section, *rest = conflict.path
-    is_of_metal = rest[0] == METALS and len(rest) > 2
-    key, name = (METALS, rest[2]) if is_of_metal else (section, rest[0])
+    is_of_list = rest[0] in LISTS and len(rest) > 2
+    key, name = (rest[0], rest[2]) if is_of_list else (section, rest[0])
     label = next((k.label for k in KEYS if (k.section, k.name) == (key, name)), "")
     return f"{label} ({conflict})" if label else str(conflict)
 
@@ -339,10 +342,22 @@ def _beat(study: Path) -> _Told:
     }
 
 
+def _numbered(study: Path, number: int) -> _Told:
+    """A run of a study."""
+    for run in runs.of(study):
+        if run["number"] == number:
+            return run
+    raise Refused(404, f"there is no run {number}")
+
+
 def _shown(run: _Told) -> _Told:
-    """A run as the browser takes it."""
+    """A run as the browser takes it, and how far it is."""
     names = ("number", "what", "typed", "asked", "who", "began", "state", "status", "seconds")
-    return {name: run[name] for name in names} | {"folder": f"log/desk/{run['folder'].name}"}
+    told = {name: run[name] for name in names} | {"folder": f"log/desk/{run['folder'].name}"}
+    if run["state"] == "running":
+        found, _ = events.read_on(run["folder"] / "events.jsonl", 0, _MOST)
+        told["far"] = events.progress(found, run["typed"])
+    return told
 
 
 def _run_from(run: _Told, request: Request) -> _Told:

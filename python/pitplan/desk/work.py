@@ -17,8 +17,6 @@ from itertools import zip_longest
 from pathlib import Path
 from typing import Any
 
-import pandas as pd
-
 from ..base.error_text import errors_told
 from ..base.errors import PlanError
 from ..base.files import whole_file
@@ -29,19 +27,21 @@ from ..plans.surface import of_dxf
 from ..study.building import near
 from ..study.check import check as checked, model_of
 from ..study.first_look import GRADE, look_at, metal_in, named_grades, written
-from ..study.looks import not_held
+from ..study.looks import of_walls
 from ..study.study import Study
+from ..slopes.slopes import walls_of
 from ..study.study_file import parts_of_file, read_study_file
+from ..table.column_lines import told_of
 from ..table.column_names import PLACES, columns_found, nearest
 from ..table.csv_text import SAY_ENCODING, dialect_of, head_of, names_of, numbers_among
-from ..table.csv_text import open_table, read_frame
+from ..table.csv_text import read_frame, rows_about
 from ..views import slope_rose
 from ..views.ground import from_above
 
 _LOOKED = "rows names grades size rotation absent region regions rocks notes".split()
+_GUESSED = ("size", "rotation", "absent")  # keys of [model] that a look at the table guesses
 ASK_COLUMNS = 'choose below which column is which, and press "Go on"'
 _ASK_ENCODING = 'save it as "CSV UTF-8"; or type its encoding below, as cp1252, and press "Go on"'
-_MOST_WORDS = 12  # words of a column that are listed
 _WIDEST = 60  # columns of a row that are shown
 _MOST_ROWS = 20  # in which a column that may be a coordinate has a number
 _NUMBER = re.compile(r"\s*[-+]?[\d.,]*\d[\d.,]*(e[-+]?\d+)?\s*", re.IGNORECASE)
@@ -111,7 +111,14 @@ def look(study: Path) -> _Told:
     each = [*found.grades, GRADE]
     metals = tomllib.loads(f"metals = [{''.join(map(metal_in, each))}]")["metals"]
     told = {name: getattr(found, name) for name in _LOOKED}
+    told["size"] = found.size and list(found.size)
     told |= {"named": named_grades(found), "metals": dict(zip(each, metals)), "marks": marks}
+    seen, now = {key: told[key] for key in _GUESSED}, {"rotation": 0, **model, "absent": marks}
+    if set(seen["absent"]) <= set(marks):
+        del seen["absent"]
+    told["differs"] = [
+        [key, value] for key, value in seen.items() if value not in (None, now.get(key))
+    ]
     return {
         **told,
         "columns": _lines(*of, tuple(marks)),
@@ -136,23 +143,9 @@ def _lines(table: Any, columns: Any, encoding: str | None, absent: tuple[str, ..
         found.grades, "grade"
     )
     return [
-        {"name": name, "is": is_what.get(name, ""), **_line_of(frame[name], marks)}
+        {"name": name, "is": is_what.get(name, ""), **told_of(frame[name], marks)}
         for name in map(str, frame.columns)
     ]
-
-
-def _line_of(values: pd.Series, marks: list[float]) -> _Told:
-    """What a column has: its least, mean and greatest number, or its commonest words."""
-    numbers = pd.to_numeric(values, errors="coerce")
-    numbers = numbers.mask(numbers.isin(marks))
-    there = numbers.notna()
-    if there.mean() > 0.5:
-        found = [float(numbers.min()), float(numbers.mean()), float(numbers.max())]
-        return {"numbers": found, "without": int((~there).sum()), "words": [], "kinds": 0}
-    words = values.dropna().value_counts()
-    common = [str(word).strip() for word in words.index[:_MOST_WORDS]]
-    without = int(values.isna().sum())
-    return {"numbers": [], "without": without, "words": common, "kinds": len(words)}
 
 
 _model: dict[Any, Any] = {}  # the model that was read last, by what it was read with
@@ -193,8 +186,8 @@ def check(study: Path) -> _Told:
 
 
 def overview(study: Path) -> _Told:
-    """How far a study is, by its files."""
-    told: _Told = {"built": False, "old": None, "there": 0, "of": 0}
+    """How far a study is, by its files; `said` is a kind of mark, its words and what they stand for."""
+    told: _Told = {"built": False, "old": None, "there": 0, "said": ["", "not built yet"]}
     told["when"] = (study / "study.toml").stat().st_mtime
     try:
         built = Study(study)
@@ -206,14 +199,17 @@ def overview(study: Path) -> _Told:
         file = read_study_file(study)
         built.refuse_changed(file.path, file.digest, file.table)
     except PlanError as error:
-        return {**told, "old": error.said}
+        said = ["warn", "changed since it was built", error.said]
+        return {**told, "old": error.said, "said": said}
     verdicts = {factor: found for factor in file.factors if (found := built.verdict(factor))}
-    full = verdicts.get(1000)
+    full, there, of = verdicts.get(1000), len(verdicts), len(file.factors)
+    certified = sum(bool(found["certificate"]) for found in verdicts.values())
+    more = f", {certified} with certificates" if certified else ""
+    said = ["good" if there == of else "warn", f"{there} of {of} pits proved{more}"]
     return {
         **told,
-        "there": len(verdicts),
-        "of": len(file.factors),
-        "certified": sum(bool(found["certificate"]) for found in verdicts.values()),
+        "there": there,
+        "said": said if there else ["", f"built, {told['blocks']:,} blocks"],
         "factors": [factor / 1000 for factor in verdicts],
         "worth": full and float(full["worth"]),
         "pit": full and full["count"],
@@ -252,17 +248,12 @@ def _model_at_hand(study: Path) -> Any:
 
 
 def rose(study: Path) -> _Told:
-    """The walls that are asked for and those that would be built, by degrees of bearing, for each region."""
+    """What `pitplan slopes` says: the walls that are asked for and those that would be built, by bearing."""
     file = read_study_file(study)
     grid, slopes, unit = file.grid(), file.slopes, Units(**file.keys.units).length
-    table, regions = slopes.built(grid), []
-    table = table[table.bearing % 45 == 0]
-    for name, pattern in slopes.patterns(grid).items():
-        rows, lines = table[table.region == name], slopes.lines(name, grid, unit)
-        said = "" if pattern.is_held else not_held(name, pattern, slopes.levels)
-        told = {"name": name, "asked": rows.asked.tolist(), "built": rows.built.tolist()}
-        regions.append({**told, "said": lines, "look": said})
-    return {"regions": regions, "bearings": rows.bearing.tolist()}
+    (names, rows), (said, looks) = walls_of(slopes.built(grid), 45), of_walls(slopes, grid, unit)
+    looks = [it.replace("\n  try:", "; try:") for it in looks]
+    return {"names": names, "rows": rows, "said": said, "looks": looks}
 
 
 def rose_picture(study: Path) -> bytes:
@@ -287,12 +278,6 @@ def _png(figure: Any) -> bytes:
 
 
 def cells(study: Path, row: str) -> _Told:
-    """The header and the rows about one, as a spreadsheet counts them: what an error names."""
+    """The header and the rows about one: what an error names."""
     table, model = _table_of(study)
-    dialect, found = dialect_of(table, model.get("encoding") or "utf-8-sig"), []
-    with open_table(table) as file:
-        for number, line in zip(range(1, int(row) + 2), file):
-            if number == 1 or number >= int(row) - 1:
-                text = line.decode(dialect.encoding, "replace").rstrip("\r\n")
-                found.append([number, text.split(dialect.separator)[:_WIDEST]])
-    return {"rows": found}
+    return {"rows": rows_about(table, int(row), model.get("encoding") or "utf-8-sig", _WIDEST)}

@@ -333,3 +333,19 @@ def pattern_of(wall: offsets.Wall, safe: bool, levels: int | None) -> Pattern:
     """As `offsets.search`; a wall that was asked for before, as by what-ifs over the same slopes,
     isn't searched again."""
     return offsets.search(wall, safe=safe, levels=levels)
+
+
+def walls_of(built: pd.DataFrame, every: int) -> tuple[list[str], list[tuple[str, ...]]]:
+    """The angles of `Slopes.built` as a table: its names, and a line for each so many degrees of
+    bearing, of all regions side by side."""
+    regions = list(dict.fromkeys(built.region))
+    columns = ("asked", "built", "error")
+    each = [(name, column) for name in regions for column in columns]
+    names = [column if len(regions) == 1 else f"{name} {column}" for name, column in each]
+    lines = []
+    for bearing, rows in built[built.bearing % every == 0].groupby("bearing"):
+        by_region = rows.set_index("region").round(1) + 0.0
+        signs = ("+" if column == "error" else "" for _, column in each)
+        cells = (f"{by_region.at[it]:{sign}.1f}" for it, sign in zip(each, signs))
+        lines.append((str(bearing), *cells))
+    return ["bearing", *names], lines

@@ -20,6 +20,7 @@ from ..base.units import PRICES
 from ..base.units_shown import length_text
 from ..base.usual_metals import usual_price
 from ..model.economics import Economics, Metal
+from ..model.grid import Grid
 from ..model.model import Model, TableKeys
 from .plausible import strange
 from ..table.column_names import AIR, columns_with, misnamed, said_of_misnamed
@@ -515,6 +516,15 @@ def of_ramps(slopes: Slopes, unit: str) -> Iterator[Strange]:
                     "width, turns and height in [slopes] ramp",
                     key,
                 )
+
+
+def of_walls(slopes: Slopes, grid: Grid, unit: str) -> tuple[list[str], list[str]]:
+    """What the walls of all regions are built of, lengths in a unit; and where angles can't be held
+    what is said of it."""
+    patterns = slopes.patterns(grid).items()
+    lines = [line for name, _ in patterns for line in slopes.lines(name, grid, unit)]
+    loose = [(name, pattern) for name, pattern in patterns if not pattern.is_held]
+    return lines, [not_held(name, pattern, slopes.levels) for name, pattern in loose]
 
 
 def not_held(name: str, pattern: Pattern, levels: int | None) -> str:

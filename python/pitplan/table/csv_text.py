@@ -402,6 +402,18 @@ def _tell_return(text: IO[str], path: Path, separator: str) -> None:
             ) from None
 
 
+def rows_about(path: Path, row: int, encoding: str, most: int) -> list[tuple[int, list[str]]]:
+    """The header of a table and the rows about one, as a spreadsheet counts them, each with at most
+    so many cells."""
+    dialect, found = dialect_of(path, encoding), []
+    with open_table(path) as file:
+        for number, line in zip(range(1, row + 2), file):
+            if number == 1 or number >= row - 1:
+                text = line.decode(dialect.encoding, "replace").rstrip("\r\n")
+                found.append((number, text.split(dialect.separator)[:most]))
+    return found
+
+
 def refuse_doubled(names: Sequence[str], path: object) -> None:
     """Refuses a name that two columns have. Raises PlanError that names it."""
     doubled = next((name for name, count in Counter(names).items() if count > 1), None)

@@ -136,6 +136,12 @@ class Key:
         )
 
     @property
+    def form(self) -> dict[str, Any]:
+        """Of what form its values are, for who makes a field of it: their schema, and one of them."""
+        kind = KINDS[self.kind]
+        return {"schema": kind.schema, "start": tomllib.loads(f"start = {kind.example}")["start"]}
+
+    @property
     def must(self) -> str:
         """What a value has to be, in words."""
         if self.wrong:
@@ -284,12 +290,25 @@ _FAR = 1e9  # more than any wall has, in metres or in feet
 SERIES = ("from", "to", "step")
 _UNITS = {"length": tuple(LENGTHS), "weight": tuple(WEIGHTS)}
 _NUMBER, _WORD = {"type": "number"}, {"type": "string"}
-_AMOUNT = {"oneOf": [_NUMBER, _WORD, {"type": "object", "additionalProperties": _NUMBER}]}
 _WORDS = {"type": "array", "items": _WORD}
+# titles are those of forms, and of what keys of a table name: a rock, a region, a metal, a currency
+_AMOUNT = {
+    "oneOf": [
+        {**_NUMBER, "title": "one number"},
+        {
+            "title": "by rock",
+            "type": "object",
+            "propertyNames": {"title": "rock"},
+            "additionalProperties": _NUMBER,
+        },
+        {**_WORD, "title": "column or formula"},
+    ]
+}
 _ANGLES = {
     "oneOf": [
-        _NUMBER,
+        {**_NUMBER, "title": "all round"},
         {
+            "title": "by bearing",
             "type": "array",
             "minItems": 1,
             "items": {"type": "array", "items": _NUMBER, "minItems": 2, "maxItems": 2},
@@ -298,8 +317,12 @@ _ANGLES = {
 }
 _POSITIVE = {"type": "number", "exclusiveMinimum": 0}
 _RAMP_SCHEMA: dict[str, Any] = {
+    "title": "in all walls",
     "type": "object",
-    "properties": dict.fromkeys((*_RAMP_KEYS, "turns", "around"), _POSITIVE),
+    "properties": {
+        name: {**_POSITIVE, "description": means, "examples": [float(example)]}
+        for name, (means, example) in _RAMP_MEANS.items()
+    },
     "required": list(_RAMP_KEYS),
     "oneOf": [{"required": ["turns"]}, {"required": ["around"]}],
     "additionalProperties": False,
@@ -333,7 +356,11 @@ KINDS: dict[str, _Kind] = {
         'a table of numbers above 0, as { "EUR" = 1.08 }',
         lambda value: is_table(value)
         and all(_is_number(rate) and rate > 0 for rate in value.values()),
-        {"type": "object", "additionalProperties": {"type": "number", "exclusiveMinimum": 0}},
+        {
+            "type": "object",
+            "propertyNames": {"title": "currency"},
+            "additionalProperties": _POSITIVE,
+        },
         '{ "EUR" = 1.08 }',
     ),
     "units": _Kind(
@@ -374,12 +401,8 @@ KINDS: dict[str, _Kind] = {
         and all(map(_is_number, value)),
         {
             "oneOf": [
-                {"type": "number", "exclusiveMinimum": 0},
-                {
-                    "type": "array",
-                    "items": {"type": "number", "exclusiveMinimum": 0},
-                    "minItems": 1,
-                },
+                {**_POSITIVE, "title": "the same each year"},
+                {"title": "year by year", "type": "array", "items": _POSITIVE, "minItems": 1},
             ]
         },
         "[15e6, 20e6]",
@@ -399,7 +422,11 @@ KINDS: dict[str, _Kind] = {
     "recoveries": _Kind(
         'a table by metal as { copper = 0.6, gold = "0.3 + 0.2 * AU" }, each a number, a column, a formula, or a number for each rock',
         lambda value: is_table(value) and all(map(_is_amount, value.values())),
-        {"type": "object", "additionalProperties": _AMOUNT},
+        {
+            "type": "object",
+            "propertyNames": {"title": "metal"},
+            "additionalProperties": _AMOUNT,
+        },
         "{ copper = 0.6 }",
     ),
     "payables": _Kind(
@@ -407,6 +434,7 @@ KINDS: dict[str, _Kind] = {
         _are_paid,
         {
             "type": "object",
+            "propertyNames": {"title": "metal"},
             "additionalProperties": {"type": "number", "minimum": 0, "maximum": 1},
         },
         "{ copper = 0.96 }",
@@ -420,7 +448,11 @@ KINDS: dict[str, _Kind] = {
     "regions": _Kind(
         "angles for each region, as { NORTH = 38, SOUTH = [[0, 44], [180, 50]] }",
         lambda value: is_table(value) and all(map(_are_angles, value.values())),
-        {"type": "object", "additionalProperties": _ANGLES},
+        {
+            "type": "object",
+            "propertyNames": {"title": "region"},
+            "additionalProperties": _ANGLES,
+        },
         "{ NORTH = 38 }",
     ),
     "ramp": _Kind(
@@ -431,7 +463,14 @@ KINDS: dict[str, _Kind] = {
         {
             "type": "object",
             "minProperties": 1,
-            "oneOf": [_RAMP_SCHEMA, {"additionalProperties": _RAMP_SCHEMA}],
+            "oneOf": [
+                _RAMP_SCHEMA,
+                {
+                    "title": "by region",
+                    "propertyNames": {"title": "region"},
+                    "additionalProperties": _RAMP_SCHEMA,
+                },
+            ],
         },
         _RAMP,
     ),
@@ -440,8 +479,9 @@ KINDS: dict[str, _Kind] = {
         _are_factors,
         {
             "oneOf": [
-                {"type": "array", "items": _NUMBER, "minItems": 1},
+                {"title": "as a list", "type": "array", "items": _NUMBER, "minItems": 1},
                 {
+                    "title": "as a series",
                     "type": "object",
                     "properties": dict.fromkeys(SERIES, _NUMBER),
                     "required": list(SERIES),

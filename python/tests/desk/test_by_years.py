@@ -16,6 +16,13 @@ return years && [years.getAttribute("aria-label"), [...years.querySelectorAll("t
 """
 
 
+PLAN = """
+if (!document.documentElement?.dataset.ready) return null;
+return [...document.querySelector("tbody").rows].map(row => [...row.cells].slice(0, 2)
+  .map(cell => Number(cell.textContent.replaceAll(",", ""))));
+"""
+
+
 @pytest.fixture(scope="module")
 def planned(tmp_path_factory):
     folder = tmp_path_factory.mktemp("mines")
@@ -54,6 +61,44 @@ def test_a_plan_by_years_is_shown_and_saved(planned):
             "pitplan vary planned price=-20..20 recovery=-5..5 slope=-3..3 sink=-1..1 --schedule"
         )
         browser.sees(words, "#main")
+        assert not browser.complaint()
+        assert not browser.complaints()
+    finally:
+        browser.close()
+        desk.end()
+
+
+def test_a_plan_by_years_is_found_and_the_model_is_saved_for_other_optimisers(tmp_path):
+    study = built(tmp_path / "mines" / "hill", terms="")
+    desk, browser = Desk(study.parent), Chromium()
+    try:
+        browser.get(desk.door)
+        browser.press_on("a", "hill")
+        browser.sees("rows", "#main")
+        browser.get(f"{desk.address}/#/hill/pits/years")
+        browser.types("i.schedule.mining_rate", "500e3")
+        browser.types("i.schedule.mill_rate", "300e3")
+        browser.fills("#gap", "5")
+        browser.fills("#minutes", "2")
+        browser.fills("#mining_width", "20")
+        browser.sees("pitplan schedule hill --gap 5 --minutes 2 --mining-width 20", "#main")
+        browser.click("#schedule")
+        browser.sees("plan by years: done", "#say")
+        browser.sees("pit schedule says: feasible", "#main")
+        dug = of_table(study)
+        count = dug[dug.year > 0].year.value_counts().sort_index()
+        rows = browser.within("iframe.page", PLAN)
+        assert rows == [[year, blocks] for year, blocks in count.items()]
+        browser.there("img[alt='out/schedule-years.png']")
+        browser.click("[id='part.files']")
+        browser.sees("out/schedule_t.csv", "#main")
+        for kind in ("dxf", "vtu", "csv", "minelib"):
+            browser.click(f"[id='kind.{kind}']")
+        browser.sees("pitplan export hill --to minelib", "#main")
+        browser.click("#write")
+        browser.sees("files: done", "#say")
+        browser.sees(".upit", "#main")
+        assert list((study / "out").rglob("*.upit"))
         assert not browser.complaint()
         assert not browser.complaints()
     finally:

@@ -1,6 +1,7 @@
 """Who may talk to the desk, and what they may reach: a test for each row of docs/DESK.md's table of dangers."""
 import inspect
 import re
+import shutil
 import subprocess
 import sys
 from pathlib import Path
@@ -274,7 +275,7 @@ SMUGGLED = (
     {"what": "vary", "changes": []},
     {"what": "phases", "factors": ["--help"]},
     {"what": "phases", "factors": "0.4"},
-    {"what": "phases", "factors": [0.4], "width": "40; rm"},
+    {"what": "phases", "factors": [0.4], "mining_width": "40; rm"},
     {"what": "phases", "factors": [float("inf")]},
     {"what": "export", "kinds": ["dxf"], "crs": "--x"},
     {"what": "export", "kinds": ["sh"]},
@@ -283,6 +284,8 @@ SMUGGLED = (
     {"what": "compare", "design": "../../secret.csv"},
     {"what": "compare", "design": "-d.dxf"},
     {"what": "compare", "design": "d.dxf", "factor": True},
+    {"what": "schedule", "gap": "0.5 --workers 9"},
+    {"what": "schedule", "minutes": True},
     {"what": "task"},
     {"what": "submit"},
     {},
@@ -311,7 +314,7 @@ def test_what_a_button_runs(root):
         return [" ".join(step) for step in steps]
 
     assert typed(what="all") == ["build hill", "shells hill", "page hill", "plot hill"]
-    assert typed(what="phases", factors=[0.4, 1], width=40) == [
+    assert typed(what="phases", factors=[0.4, 1], mining_width=40) == [
         "phases hill 0.4,1 --mining-width 40",
         "page hill --phases 0.4,1",
     ]
@@ -324,6 +327,9 @@ def test_what_a_button_runs(root):
     assert typed(what="vary", changes=["price=-20..20"]) == ["vary hill price=-20..20 --factor 1"]
     by_years = {"what": "vary", "changes": ["discount=-2..2", "sink=-1..1"], "schedule": True}
     assert typed(**by_years) == ["vary hill discount=-2..2 sink=-1..1 --schedule"]
+    assert typed(what="schedule") == ["schedule hill"]
+    assert typed(what="schedule", minutes=2, gap=0.5) == ["schedule hill --gap 0.5 --minutes 2"]
+    assert typed(what="export", kinds=["minelib"]) == ["export hill --to minelib"]
     assert typed(what="risk") == ["risk hill --schedule"]
     assert typed(what="page", schedule=True) == ["page hill --schedule"]
     assert typed(runs, what="page", schedule=True) == ["page hill --phases 0.4,1 --schedule"]
@@ -334,6 +340,30 @@ def test_what_a_button_runs(root):
         "plot hill --bench 1005 --colour=--help"
     ]
     assert typed(what="phases", factors=[0.1 + 0.2])[0] == "phases hill 0.3"
+
+
+LINES = {".py": 1700, ".js": 1300, ".html .css": 300}  # all that there may be, at most so wide
+WIDEST = 100
+
+
+@pytest.mark.parametrize("kinds", LINES)
+def test_the_desk_stays_small_enough_to_be_read(kinds):
+    top = Path(routes.__file__).parent
+    files = [path for path in top.rglob("*") if path.suffix in kinds.split()]
+    lines = [line for path in files for line in path.read_text().splitlines()]
+    assert 0 < len(lines) <= LINES[kinds]
+    if kinds == ".js":
+        assert [line for line in lines if len(line) > WIDEST] == []
+
+
+@pytest.mark.parametrize("path", sorted(routes.STATIC.glob("*.js")), ids=lambda path: path.name)
+def test_each_script_is_whole(path):
+    node = shutil.which("node")
+    if node is None:
+        pytest.skip("node isn't there")
+    words = [node, "--input-type=module", "--check"]
+    ran = subprocess.run(words, input=path.read_text(), capture_output=True, text=True)
+    assert ran.returncode == 0, ran.stderr
 
 
 def test_no_shell_reads_anything():

@@ -13,7 +13,7 @@ from desks import Chromium, Desk
 from processes import TOP, said
 
 SCREENS = ("table", "money", "slopes", "pits", "pushbacks", "designs", "vary", "history")
-PARTS = ("pits/pictures", "pits/files", "pits/page")
+PARTS = ("pits/years", "pits/pictures", "pits/files", "pits/page")
 MARKUP = '<img src=x onerror="document.title=1">'
 
 
@@ -269,11 +269,13 @@ def test_an_older_study_is_taken_again_and_results_of_another_one_are_marked(bro
     for answer, wanted in (("#no", typed), ("#yes", ran)):
         browser.click("[id='to.history']")
         browser.sees("take its study.toml again")
-        browser.script(f"performance.clearResourceTimings(); {TAKE} {TAKE}")
-        browser.there("#asks")
-        browser.until(lambda: browser.script(TAKEN) >= 2, "both were asked for")
-        assert browser.script("return document.querySelectorAll('dialog').length") == 1
+        browser.script(f"{TAKE} {TAKE}")
+        browser.there("#asks[open]")
+        assert browser.script("return document.querySelectorAll('dialog[open]').length") == 1
         browser.click(answer)
+        browser.until(
+            lambda: browser.script("return !document.querySelector('#asks').open"), "it is shut"
+        )
         browser.until(lambda: study.read_text() == wanted, answer)
     browser.sees("kept as study.toml.before", "#say")
     assert study.with_name("study.toml.before").read_text() == typed
@@ -282,8 +284,6 @@ def test_an_older_study_is_taken_again_and_results_of_another_one_are_marked(bro
 
 TAKE = """[...document.querySelectorAll("button")].find(
     e => e.innerText.startsWith("take its")).click();"""
-TAKEN = """return performance.getEntriesByType("resource")
-    .filter(e => e.name.includes("study.toml")).length"""
 
 
 SLOW = """const asks = window.fetch;

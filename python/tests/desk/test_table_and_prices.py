@@ -142,7 +142,7 @@ def test_a_table_in_another_encoding_is_asked_for_it(browser, begin):
     browser.sees("isn't text in UTF-8", ".fault")
     assert "--" not in browser.text(".fault")
     assert "init" not in browser.text(".fault")
-    browser.fills("[id='n.encoding']", "cp1252")
+    browser.fills("#encoding", "cp1252")
     browser.click("#named")
     browser.sees("5,041 rows")
     assert told(study)["model"]["encoding"] == "cp1252"

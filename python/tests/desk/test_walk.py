@@ -68,7 +68,7 @@ def prices(browser, study):
     browser.sees("has to be a number from 0 to 1", "[id='f.economics.dilution']")
     browser.there("#text li.wrong")
     browser.types("i.economics.dilution", "0.03")
-    browser.picks("i.economics.mining.how", "formula")
+    browser.picks("i.economics.mining.how", "column or formula")
     browser.types("i.economics.mining", "2.0 + 0.03 * (1125 - ZD) / 10")
     browser.sees("is 'ZC' meant", "[id='f.economics.mining']")
     browser.types("i.economics.mining", "2.0 + 0.03 * (1125 - ZC) / 10")
@@ -82,7 +82,7 @@ def slopes(browser, study):
     browser.types("i.slopes.angles", "44")
     browser.press_on("button", "regions by SECTOR")
     browser.sees("NORTH", "table.data")
-    browser.picks("i.slopes.regions.NORTH.how", "by")
+    browser.picks("i.slopes.regions.NORTH.how", "by bearing")
     browser.types("i.slopes.regions.NORTH.0.1", "38")
     browser.sees("38.0", "table.data")
     assert told(study)["slopes"]["regions"]["NORTH"][0] == [0, 38]

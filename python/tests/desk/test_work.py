@@ -28,7 +28,7 @@ from pitplan.desk.worker import Worker
 from processes import TOP, gone, started
 from served import pitplan
 
-ASKED = ("look", "check", "rose", "cells?row=3", "ground", "pulse", "files", "runs")
+ASKED = ("look", "check", "rose", "cells?row=3", "ground", "pulse")
 HILL = (TOP / "examples" / "hill.csv").read_text()
 ORIGIN = "http://desk"
 
@@ -83,8 +83,11 @@ def test_a_study_is_begun_as_init_does(desk, tmp_path):
     assert (study / "study.toml").read_text() == wanted
     again = desk.post("/api/studies", json={"table": "hill.csv", "name": "begun"})
     assert again.status_code == 409
-    assert desk.post("/api/studies", json={"copy": "begun", "name": "copied"}).status_code == 200
-    assert (desk.root / "copied" / "study.toml").read_text() == wanted
+    for name in ("begun-2", "begun-3"):
+        assert desk.post("/api/studies", json={"copy": "begun"}).json() == {"study": name}
+        assert (desk.root / name / "study.toml").read_text() == wanted
+    assert desk.post("/api/studies", json={"copy": "nowhere"}).status_code == 404
+    assert desk.post("/api/studies", json={"copy": "../begun"}).status_code == 404
 
 
 def test_what_a_route_asks_a_process_for_is_there():
@@ -197,7 +200,21 @@ def test_what_a_table_looks_like(desk):
     least, mean, most = column["CU"]["numbers"]
     assert (least, most) == (min(cu), max(cu))
     assert mean == pytest.approx(sum(cu) / len(cu))
-    assert column["AU"]["without"] == sum(",-99," in f"{row}," for row in HILL.splitlines()[1:])
+    without = sum(",-99," in f"{row}," for row in HILL.splitlines()[1:])
+    assert column["AU"]["told"][3] == f"{without:,}"
+    assert column["CU"]["told"] == [
+        f"{min(cu):.4g}",
+        f"{sum(cu) / len(cu):.4g}",
+        f"{max(cu):.4g}",
+        "",
+        "",
+    ]
+    assert column["BLOCKID"]["told"][4].startswith("5,041, as ")
+    assert told["differs"] == []
+    changed(desk, "looked", (["model", "size"], [20, 20, 5]), (["model", "absent"], ["-9"]))
+    changed(desk, "looked", (["model", "rotation"], None))
+    differs = desk.get("/api/studies/looked/look").json()["differs"]
+    assert differs == [["size", [20, 20, 10]], ["rotation", 30], ["absent", ["-99"]]]
     assert column["ROCK"]["words"] == ["SUL", "OXI", "OVB"]
     assert column["CU"]["is"] == "grade"
     assert told["init"]["economics"]["metals"][0]["price"] == 8500
@@ -211,12 +228,18 @@ def test_pictures_and_the_rose(desk):
         assert told.content[:4] == b"\x89PNG"
     no = desk.get("/api/studies/drawn/ground?what=NOWHERE").json()
     assert "there is no column 'NOWHERE'" in no["errors"][0]["said"]
-    regions = desk.get("/api/studies/drawn/rose").json()["regions"]
-    assert [r["name"] for r in regions] == ["default"]
-    assert set(regions[0]["asked"]) == {45.0}
+    told = desk.get("/api/studies/drawn/rose").json()
+    assert told["names"] == ["bearing", "asked", "built", "error"]
+    assert {row[1] for row in told["rows"]} == {"45.0"}
     ran = pitplan("slopes", desk.root / "drawn")
-    assert all(line in ran.stdout for line in regions[0]["said"]), (ran.stdout, regions)
-    assert max(abs(b - 45) for b in regions[0]["built"]) < 1
+    lines = [line.split() for line in ran.stdout.splitlines()]
+    assert all(row in lines for row in told["rows"]), (ran.stdout, told)
+    assert all(line in ran.stdout for line in told["said"]), (ran.stdout, told)
+    walls = [[float(cell) for cell in row] for row in told["rows"]]
+    assert [wall[0] for wall in walls] == list(range(0, 360, 45))
+    assert max(abs(built - 45) for _, _, built, _ in walls) < 1
+    assert all(abs(built - asked - error) < 0.11 for _, asked, built, error in walls)
+    assert all(row[3][0] in "+-" for row in told["rows"])
     told = desk.get("/api/studies/drawn/rose.png")
     assert told.headers["content-type"] == "image/png"
     assert told.content[:4] == b"\x89PNG"
@@ -295,6 +318,27 @@ def test_a_text_that_another_one_replaces_is_kept_where_it_is_asked_for(desk):
         told = desk.patch("/api/studies/kept", json=body).json()
         assert told["kept"] == f"study.toml.before{kept}"
         assert (study / told["kept"]).read_text() == there
+
+
+def test_the_text_of_a_run_comes_in_place_of_the_one_that_stands_there(desk):
+    study = begun(desk, "ran")
+    first = (study / "study.toml").read_text()
+    run = study / "log" / "desk" / "0003-build"
+    run.mkdir(parents=True)
+    (run / "study.toml").write_text("# of then\n" + first)
+    (run / "asked.json").write_text(
+        '{"what": "build", "typed": [], "steps": [], "began": 0, "who": "", "asked": {}}'
+    )
+    (run / "ended-0-0").touch()
+    etag = desk.get("/api/studies/ran").json()["pulse"]["etag"]
+    asked = {"run": 3, "etag": etag, "keeps": True}
+    told = desk.patch("/api/studies/ran", json=asked).json()
+    assert told["text"] == "# of then\n" + first
+    assert (study / told["kept"]).read_text() == first
+    assert desk.patch("/api/studies/ran", json=asked).status_code == 409
+    again = {"run": 4, "etag": told["pulse"]["etag"]}
+    assert desk.patch("/api/studies/ran", json=again).status_code == 404
+    assert (study / "study.toml").read_text() == told["text"]
 
 
 def test_a_text_that_is_no_toml_is_kept_and_told(desk):

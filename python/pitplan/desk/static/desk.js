@@ -1,16 +1,16 @@
 // The desk's frame: what is asked of the server, the study that is open, its study.toml, its runs.
-import { at, button, chip, entry, h, like, nodes, number, same, tip } from "./dom.js";
+import { at, button, chip, h, like, nodes, number, same, tip } from "./dom.js";
 import { bar, nameOf } from "./runs.js";
 import { guide, home, screens } from "./screens.js";
 
 const POLL = 500; // milliseconds between two looks at a run
 const AGAIN = 300; // .. before what didn't reach the desk is asked once more
-const PULSE = 2000; // .. at what others do
+const OTHERS = 4; // of these looks each is at what others do, too
 const SHOWN = 6000; // that a message stays
 
 /** What is known of a study that is opened. */
-const opened = study => ({ study, look: null, check: null, rose: null, files: [], runs: [],
-  events: {}, typed: {}, cells: {}, edits: null, changed: new Set() });
+const opened = study => ({ study, look: null, check: null, rose: null, events: {}, typed: {},
+  cells: {}, edits: null, changed: new Set() });
 /** All that is known of the folder and of the open study. */
 export const D = { home: null, naming: null, dropped: null, ...opened(null) };
 
@@ -29,15 +29,13 @@ export function say(text, kind = "") {
   setTimeout(() => line.remove(), kind === "bad" ? 5 * SHOWN : SHOWN);
 }
 
-/** Asks before it is done. @param {string} question @param {string} yes @returns {Promise<any>} */
-export const agreed = (question, yes) => new Promise(done => {
-  if (byId("asks")) return done(false); // one at a time
-  const end = is => { dialog.remove(); done(is); };
-  const dialog = h("dialog", { id: "asks", oncancel: () => end(false) }, h("p", question),
-    h("div.amount", button(yes, () => end(true), { id: "yes" }),
-      button("Leave it", () => end(false), { id: "no" })));
-  document.body.append(dialog);
-  return dialog.showModal();
+/** Asks before it is done. @param {string} question @returns {Promise<boolean>} */
+export const agreed = question => new Promise(done => {
+  const dialog = byId("asks");
+  dialog.querySelector("p").textContent = question;
+  dialog.onclick = e => e.target.id && e.target !== dialog && dialog.close(e.target.id);
+  dialog.onclose = () => done(dialog.returnValue === "yes");
+  return dialog.open || dialog.showModal(); // one at a time
 });
 
 /** Whether the desk doesn't answer, or has another token. */
@@ -76,6 +74,8 @@ export function where() {
   const [, study, screen, part] = location.hash.split("/").map(decodeURIComponent);
   return { study, screen: screens[screen] ? screen : "table", part };
 }
+/** @returns {string} the screen that is shown, or the part of it */
+export const here = () => [where().screen, where().part].filter(it => it && it !== "run").join("/");
 
 /** @param {any[]} path @returns {any} the value in study.toml; undefined where there is none */
 export const valueOf = path => path.reduce(stepped, D.study.values ?? {});
@@ -106,7 +106,7 @@ async function write(body) {
   const send = () => ask("PATCH", path, asked);
   const [path, asked] = [api(), { ...body(), who: who() }];
   let told = await send();
-  for (; told.isGone; told = await send()) await pause(PULSE); // what was typed waits for the desk
+  for (; told.isGone; told = await send()) await pause(AGAIN); // what was typed waits for the desk
   if (told.stale) await reread();
   if (!told.ok) return draw();
   if (told.name !== D.study?.name) return undefined; // the study was left meanwhile
@@ -118,38 +118,32 @@ async function write(body) {
   return refresh();
 }
 
-// What is asked anew after each change: once at a time, and once more where it changed meanwhile.
-let asking = null;
-let isStale = false;
+// What is asked anew after each change: once at a time, and of those that wait the latest alone.
+let checked = Promise.resolve();
+let latest = 0;
 function refresh() {
-  isStale = true;
-  asking ??= recheck().finally(() => { asking = null; });
-  return asking;
+  const mine = latest += 1;
+  checked = checked.catch(() => undefined).then(() => mine === latest && recheck(mine));
+  return checked;
 }
 
-async function recheck() {
-  while (isStale && D.study) {
-    isStale = false;
-    const of = D.study.name;
-    const wants = where().screen === "slopes" ? ["check", "rose"] : ["check"];
-    const [check, rose = null] = await Promise.all(wants.map(it => look(api(it))));
-    if (isGone()) return; // it is asked anew once the desk is back
-    if (of === D.study?.name && !isStale) {
-      Object.assign(D, { check, rose, typed: {} });
-      await draw();
-    } else isStale = Boolean(D.study);
-  }
+async function recheck(mine) {
+  const of = D.study?.name;
+  const wants = where().screen === "slopes" ? ["check", "rose"] : ["check"];
+  const [check, rose = null] = await Promise.all(wants.map(it => look(api(it))));
+  if (mine !== latest || isGone() || of !== D.study?.name) return; // it is asked anew
+  Object.assign(D, { check, rose, typed: {} });
+  await draw();
 }
 
 /** @param {string} name */
 async function open(name) {
   Object.assign(D, opened({ name }));
   await draw(); // nothing of another study is left to be pressed
-  const [told] = await Promise.all([reread(), reresults()]);
+  const told = await reread();
   if (D.study?.name !== name) return;
   if (told.ok) {
     await draw();
-    followOn();
     await Promise.all([refresh(), relook()]);
   } else {
     say(told.errors[0]?.said ?? "", "bad");
@@ -157,60 +151,38 @@ async function open(name) {
   }
 }
 
-const unread = new Set(); // what the desk couldn't tell, and is asked again
-/** Asks, and keeps it. @param {string} key of D @param {string[]} path @returns {Promise<any>} */
+let isUnread = false; // what the desk couldn't tell is asked again
+/** Asks, and keeps it. @param {string} key of D @param {...string} path @returns {Promise<any>} */
 async function kept(key, ...path) {
   const of = D.study?.name;
   const found = await look(api(...path));
   if (D.study?.name !== of) return found;
-  unread[found.ok ? "delete" : "add"](key);
+  if (key === "study") isUnread = !found.ok;
   if (found.ok || key === "look") D[key] = found; // what is wrong with a table is told
   return found;
 }
 const reread = () => kept("study");
-const reruns = () => kept("runs", "runs");
-const refiles = () => kept("files", "files");
-const reresults = () => Promise.all([reruns(), refiles()]);
 const relook = () => kept("look", "look").then(draw); // by the keys of [model]
 
 /** @param {number} which @returns {Promise<any>} a run with all that it has told */
 export async function eventsOf(which) {
   const { list, upto } = D.events[which] ?? { list: [], upto: 0 };
-  const told = await look(`${api("runs", which)}?from=${upto}`);
-  if (!told.ok) return null;
-  D.events[which] = { list: [...list, ...told.events], upto: told.upto };
-  D.runs = D.runs.map(run => (run.number === which ? told : run));
-  return told;
-}
-
-let following = 0;
-const followOn = () => D.runs[0]?.state === "running" && follow(D.runs[0].number);
-/** @param {number} which is told as it goes on */
-async function follow(which) {
-  if (following === which) return;
-  following = which;
   const of = D.study.name;
-  let run = null;
-  for (;; await pause(POLL)) {
-    run = await eventsOf(which);
-    if (following !== which || D.study?.name !== of) return;
-    await draw();
-    if (run && run.state !== "running") break;
-  }
-  following = 0;
-  say(`${nameOf(run)}: ${run.state}`, run.state === "done" ? "good" : "bad");
-  await Promise.all([reread(), refiles()]);
-  await draw();
+  const told = await look(`${api("runs", which)}?from=${upto}`);
+  if (!told.ok || D.study?.name !== of) return null;
+  D.events[which] = { list: [...list, ...told.events], upto: told.upto };
+  D.study.runs = D.study.runs.map(run => (run.number === which ? told : run));
+  return told;
 }
 
 /** @param {any} asked as asked.py has it */
 export async function start(asked) {
   const told = await ask("POST", api("runs"), { ...asked, who: who() });
-  if (told.ok) await reruns().then(() => follow(told.number));
+  if (told.ok) await reread().then(draw);
 }
 
 /** @returns {any} the run that goes on, if one does */
-export const going = () => D.runs.find(run => run.state === "running");
+export const going = () => D.study?.runs?.find(run => run.state === "running");
 /** @param {any} asked @returns {any} the commands that a button stands for, as they are typed */
 export function typed(asked) {
   const key = JSON.stringify(asked);
@@ -224,17 +196,30 @@ export function typed(asked) {
     [...lines, ...words].map(each => h("span", each)));
 }
 
-setInterval(async () => { // what others do: in other windows, in an editor, in a terminal
-  if (!D.study?.text || following || document.hidden || D.edits !== null) return;
+/** Tells the run that goes on, and how it has ended. @param {any} run */
+async function follow(run) {
+  const now = await eventsOf(run.number);
+  await draw();
+  if (!now || now.state === "running") return;
+  say(`${nameOf(now)}: ${now.state}`, now.state === "done" ? "good" : "bad");
+  await reread().then(draw);
+}
+
+/** Looks at what others do: in other windows, in an editor, in a terminal. */
+async function pulse() {
   const { ok, status, errors, ...beat } = await look(api("pulse"));
-  if (!ok || !D.study?.text || (same(beat, D.study.pulse) && !unread.size)) return;
+  if (!ok || !D.study?.text || (same(beat, D.study.pulse) && !isUnread)) return;
   const isOther = beat.etag !== D.study.pulse.etag;
   if (isOther) say("study.toml was changed, and is read again");
-  await Promise.all([reread(), reresults()]);
-  await draw();
+  await reread().then(draw);
   if (isOther) await refresh();
-  followOn();
-}, PULSE);
+}
+
+async function watch(n) {
+  if (going()) await follow(going());
+  if (n % OTHERS === 0 && D.study?.text && !document.hidden && D.edits === null) await pulse();
+}
+const beat = n => watch(n).finally(() => setTimeout(beat, POLL, n + 1));
 
 /** @returns {any[]} all that is wrong, each once, in pitplan's words */
 export function faults() {
@@ -243,53 +228,20 @@ export function faults() {
   return all.filter((f, i) => all.findIndex(other => other.said === f.said) === i);
 }
 
-const HOMES = { model: "table", economics: "money", slopes: "slopes", shells: "pits" };
-/** @param {any[]} key @returns {string} the screen that has its field */
-export const screenOf = key => HOMES[key?.[0]] ?? "table";
-
-/** @param {any} s of a study, as `work.overview` tells it */
-export function state(s) {
-  if (!s.built) return chip("", "not built yet");
-  if (s.old) return chip("warn", "changed since it was built", s.old);
-  if (!s.there) return chip("", `built, ${number(s.blocks)} blocks`);
-  const more = s.certified ? `, ${s.certified} with certificates` : "";
-  return chip(s.there === s.of ? "good" : "warn", `${s.there} of ${s.of} pits proved${more}`);
-}
-
-/** @param {string[]} words @returns {string} a command as it is typed */
-export const line = (words = []) => words.map(word => (/^[\w./:=,+-]+$/.test(word) ? word
-  : `'${word.replaceAll("'", "'\\''")}'`)).join(" ");
-
-/** @param {any} run @returns {{what: string, at: number, of: number}} how far a run is */
-export function far(run) {
-  const list = D.events[run.number]?.list ?? [];
-  const begun = list.findLastIndex(e => e.event === "begin");
-  const now = list.slice(Math.max(begun, 0));
-  const latest = kind => now.findLast(e => e.event === kind);
-  const pits = now.filter(e => e.event === "pit" && ["proved", "done"].includes(e.state));
-  const command = line(list[begun]?.command) || run.typed[0];
-  const tasks = latest("task");
-  const count = tasks?.done ?? new Set(pits.map(e => e.factor)).size;
-  const { of = 0 } = tasks ?? latest("pit") ?? {};
-  const what = of ? `${count} of ${of}` : latest("step")?.what ?? "begins";
-  return { command, what: what + (of && !tasks ? " pits proved" : ""), at: count, of };
-}
+const HOMES = { economics: "money", slopes: "slopes", shells: "pits", schedule: "pits/years" };
+/** @param {any[]} key @returns {string} the screen, or the part of one, that has its field */
+export const placeOf = key => HOMES[key?.[0]] ?? "table";
 
 function top() {
-  const run = D.study && going();
-  const how = run && far(run);
-  const name = entry("who", who(), text => localStorage.setItem("who", text),
-    { size: 10, placeholder: "name" });
-  like(byId("top"), nodes([
-    h("a.brand", { href: "#/" }, h("b", "pitplan"), " desk"),
+  const run = going();
+  like(byId("now"), nodes([
     h("h1", { className: D.study ? "" : "quiet" }, D.study?.name ?? D.home?.folder ?? ""),
-    D.study?.state && h("span", { id: "state" }, state(D.study.state)),
-    run && h("div", { id: "running" }, h("code", how.command),
-      h("span", `${how.what}, ${number(run.seconds)} s`), bar(how),
+    D.study?.state && h("span", { id: "state" }, chip(...D.study.state.said)),
+    run && h("div", { id: "running" }, h("code", run.far.command),
+      h("span", `${run.far.what}, ${number(run.seconds)} s`), bar(run.far),
       button("Stop", () => ask("DELETE", api("runs", run.number)),
         { className: "stop", id: "stop" })),
-    !run && D.study?.pulse?.held && chip("warn", D.study.pulse.held),
-    h("span.who", h("label", { htmlFor: "who" }, "your name "), name)]));
+    !run && D.study?.pulse?.held && chip("warn", D.study.pulse.held)]));
 }
 
 /** A link to a screen, or to a part of one. @param {string} id @param {string[]} to
@@ -298,7 +250,7 @@ export const tab = (id, to, label, isHere, mark = "") => h("a", { href: link(D.s
   id, className: (isHere ? "here " : "") + mark, "aria-current": isHere ? "page" : null }, label);
 
 function nav(isStudy) {
-  const wrong = faults().map(f => screenOf(f.key));
+  const wrong = faults().map(f => placeOf(f.key).split("/")[0]);
   const tabs = Object.entries(screens).map(([name, s]) => isStudy && tab(`to.${name}`, [name],
     s.label, where().screen === name, wrong.includes(name) ? "wrong" : ""));
   like(byId("nav"), nodes(tabs));
@@ -307,60 +259,42 @@ function nav(isStudy) {
 /** Shows the field of a key. @param {string} section @param {string} key */
 async function toField(section, key) {
   const id = `f.${section}.${key}`;
-  if (!byId(id)) location.hash = link(D.study.name, screenOf([section]));
+  if (!byId(id)) location.hash = link(D.study.name, placeOf([section]));
   await pause(60);
   byId(id)?.scrollIntoView({ block: "center" });
   byId(id)?.querySelector("input,select")?.focus();
 }
 
-/** The pane of study.toml. @param {any} press @param {any} list */
-const pane = (press, list) => [h("div.bar", h("b", "study.toml"), press), list];
-function editor() {
-  const save = async () => {
-    const { text, etag } = D.edits;
-    D.edits = null;
-    await queue(() => ({ text, etag }));
-  };
-  return pane([button("Save", save, { className: "main", id: "save" }),
-    button("Leave it", () => keep(D, "edits")(null))],
-  h("textarea", { id: "edits", spellcheck: false, value: D.edits.text,
-    "aria-label": "the text of study.toml", oninput: e => { D.edits.text = e.target.value; } }));
-}
-
-// what stands before a comment: no mark within quotes begins one
-const BEFORE = /^(?:[^"'#]|"(?:\\.|[^"\\])*"|'[^']*')*/;
 /** @returns {any[]} the lines of study.toml, each that has a key with a way to its field */
 function lines() {
   const bad = new Set(faults().map(f => f.line));
-  let section = "";
-  return D.study.text.replace(/\n$/, "").split("\n").map((row, n) => {
-    section = /^\s*\[(\w+)\]/.exec(row)?.[1] ?? section;
-    const key = /^(\w+)\s*=/.exec(row)?.[1];
-    const own = section;
-    const cut = BEFORE.exec(row)[0].length;
-    const isCut = cut < row.length;
-    const classes = [isCut && "clip", D.changed.has(n) && "new", bad.has(n + 1) && "wrong",
-      /^\s*\[/.test(row) && "head", key && "key"];
-    return h("li", { className: classes.filter(Boolean).join(" "), title: isCut && row.trim(),
-      id: key && `line.${own}.${key}`, onclick: key && (() => toField(own, key)) },
-    row.slice(0, cut), h("i", row.slice(cut)));
+  return D.study.lines.map(({ section, key, said, comment }, n) => {
+    const classes = [comment && "clip", D.changed.has(n) && "new", bad.has(n + 1) && "wrong",
+      said.trimStart().startsWith("[") && "head", key && "key"];
+    return h("li", { className: classes.filter(Boolean).join(" "), title: comment
+      && said.trim() + comment, id: key && `line.${section}.${key}`,
+    onclick: key && (() => toField(section, key)) }, said, h("i", comment));
   });
 }
 
+/** The pane of study.toml: its lines, or its text while somebody edits it. */
 function text(isStudy) {
   if (isStudy && D.edits && byId("edits")) return; // what is being typed stays
-  const { text: now, pulse: { etag } = {} } = D.study ?? {};
-  const edit = () => keep(D, "edits")({ text: now, etag });
-  const list = () => pane(button("Edit as text", edit, { id: "edit" }),
-    h("ol", { tabIndex: 0 }, lines()));
-  like(byId("text"), nodes(!isStudy ? [] : D.edits ? editor() : list()));
-  const shown = byId("text").querySelector("ol");
-  const first = shown?.querySelector("li.new");
-  if (first && D.scrolled !== etag) {
-    D.scrolled = etag;
-    const y = first.offsetTop - shown.offsetTop - shown.scrollTop;
-    if (y < 0 || y > shown.clientHeight - 20) shown.scrollTop += y - 60;
-  }
+  const [{ edits }, { text: now, pulse: { etag } = {} }] = [D, D.study ?? {}];
+  const edit = keep(D, "edits");
+  const save = () => { D.edits = null; return queue(() => edits); };
+  const [presses, body] = !isStudy ? [] : edits ? [[
+    button("Save", save, { className: "main", id: "save" }),
+    button("Leave it", () => edit(null))],
+  h("textarea", { id: "edits", spellcheck: false, value: edits.text,
+    "aria-label": "the text of study.toml", oninput: e => { edits.text = e.target.value; } })]
+    : [button("Edit as text", () => edit({ text: now, etag }), { id: "edit" }),
+      h("ol", { tabIndex: 0 }, lines())];
+  like(byId("text"), nodes(isStudy ? [h("div.bar", h("b", "study.toml"), presses), body] : []));
+  const first = D.scrolled !== etag && byId("text").querySelector("li.new");
+  if (!first) return;
+  D.scrolled = etag;
+  first.scrollIntoView({ block: "nearest" });
 }
 
 /** Keeps what is chosen, and draws. @param {any} choices @param {string} key @param {Take} read */
@@ -430,8 +364,12 @@ for (const [event, way] of [["focusin", "add"], ["focusout", "remove"]]) {
   });
 }
 // beside a place for files nothing is opened
-for (const event of ["dragover", "drop"]) addEventListener(event, e => e.preventDefault());
+const refuse = e => e.target.type === "file" || e.preventDefault();
+for (const event of ["dragover", "drop"]) addEventListener(event, refuse);
 addEventListener("securitypolicyviolation", e => {
   root.complaint = `${e.violatedDirective} ${e.blockedURI}`;
 });
+byId("who").value = who();
+byId("who").onchange = e => localStorage.setItem("who", e.target.value.trim());
 go();
+beat(1);

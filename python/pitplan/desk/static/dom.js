@@ -66,9 +66,6 @@ export const number = (v, digits = 0) => (!isSome(v) || v === "" || Number.isNaN
   : (+v).toLocaleString("en", { minimumFractionDigits: digits, maximumFractionDigits: digits }));
 /** @param {number} n @param {string} what */
 export const counted = (n, what) => `${number(n)} ${what}${n === 1 ? "" : "s"}`;
-/** @param {any} v @returns {string} a number with the digits that count */
-export const short = v => (!isSome(v) ? "" : Math.abs(v) >= 1000
-  ? number(v, Number.isInteger(v) ? 0 : 1) : String(+v.toPrecision(4)));
 /** @param {number|null} bytes */
 export const size = bytes => (bytes === null ? "" : bytes < 1e3 ? counted(bytes, "byte")
   : bytes < 1e5 ? `${number(bytes / 1e3, 1)} kB` : `${number(bytes / 1e6, 1)} MB`);
@@ -89,6 +86,9 @@ export const free = (named, there, n = 1) => (there.includes(named(n))
 /** @param {any} text @param {any} onclick @param {Told} more */
 export const button = (text, onclick, more = {}) => h("button",
   { type: "button", onclick, ...more }, text);
+/** A small one; of a sign alone the title says what it does. @param {string} title */
+export const small = (text, onclick, title) => button(text, onclick, { className: "small", title,
+  "aria-label": text.length === 1 && title });
 export const card = (title, ...children) => h("section.card", title && h("h2", title), children);
 export const tip = (...text) => h("p.quiet", text);
 export const look = (...text) => h("p.look", text);

@@ -1,115 +1,156 @@
-// Fields, made from the description of the keys of study.toml: one for each kind of value.
+// Fields, made from the description of the keys of study.toml: most by the schema of their kind.
 import { amounts, box, button, choice, counted, entry, free, h, having, labelled, look, number,
-  same, tick } from "./dom.js";
-import { D, api, ask, byId, change, faults, keep, link, screenOf, stepped, valueOf,
-  where } from "./desk.js";
-import { screens } from "./screens.js";
+  same, small, tick } from "./dom.js";
+import { D, api, ask, byId, change, faults, here, keep, link, placeOf, stepped,
+  valueOf } from "./desk.js";
+import { labelOf } from "./screens.js";
 
+/** @typedef {{section: string, name: string, kind: string, label: string, schema: any,
+ *   start: any, default: any, choices: string[]}} Key as study_keys.py has it */
 /** @param {any[]} path @returns {string} */
 const idOf = path => `i.${path.join(".")}`;
 const columns = () => (D.look?.columns ?? []).map(c => c.name);
 const rocks = () => D.look?.rocks ?? [];
-const metalsNow = () => valueOf(["economics", "metals"]) ?? [];
-const keyOf = (section, name) => D.home.keys.find(k => k.section === section && k.name === name);
-const units = text => (text ?? "").replace("{currency}", valueOf(["economics", "currency"]) ?? "$");
+const listNow = name => valueOf(["economics", name]) ?? [];
+const keysIn = section => D.home.keys.filter(k => k.section === section);
+const keyOf = (section, name) => keysIn(section).find(k => k.name === name);
+const isTable = v => typeof v === "object" && v !== null && !Array.isArray(v);
 const word = text => text.trim() || null;
 const value = text => (Number.isNaN(Number(text)) ? text.trim() : word(text) && Number(text));
-const seenAt = path => valueOf(path) ?? null;
+const unitOf = k => k.unit.replace("{currency}", valueOf(["economics", "currency"]) ?? "$");
+const numbers = text => word(text) && text.split(",").map(value);
 /** @param {any[]} path @param {any} now
  * @param {any} was what stood there for whoever changes it; what stands there, if undefined */
-export const set = (path, now, was) => (same(seenAt(path), now) ? undefined
+export const set = (path, now, was) => (same(valueOf(path) ?? null, now) ? undefined
   : change({ path, value: now, was }));
-/** @param {any[]} path @param {{width?: number, list?: string, hint?: any, shown?: any,
- *   read?: (text: string) => any, label?: string}} how */
-const input = (path, { width = 9, list, hint, shown = valueOf(path), read = value, label }) => box(
-  seenAt(path), { id: idOf(path), className: `w${width}`, value: shown ?? "", list,
-    placeholder: hint, "aria-label": label, autocomplete: "off" },
+const out = (path, title) => small("×", () => set(path, null), title);
+
+/** A box for a number or words. @param {any[]} path @param {Key} key @param {{width?: number,
+ *   list?: string, shown?: any, read?: (text: string) => any}} how */
+function input(path, key, { width, list, shown = valueOf(path), read = value } = {}) {
+  const isOwn = path.at(-1) === key.name; // and not one of several
+  const step = Number.isInteger(path.at(-1)) ? path.at(-1) + 1 : "";
+  return box(valueOf(path) ?? null, { id: idOf(path), className: `w${width ?? (isOwn ? 7 : 5)}`,
+    list, value: shown ?? "", placeholder: isOwn && typeof key.default !== "object" && key.default,
+    "aria-label": (isOwn || step) && `${key.label} ${step}`, autocomplete: "off" },
   (text, was) => set(path, read(text), was));
-/** @param {any[]} path @param {any[]} options @param {string} empty what none of them is called */
-function select(path, options, empty) {
-  const now = valueOf(path) ?? "";
+}
+
+/** @param {any[]} path @param {any[]} options @param {Key} key @param {string} [empty] what none
+ * of them is called @param {(text: string) => any} read */
+function select(path, options, key, empty, read = word) {
+  const now = String(valueOf(path) ?? "");
   const all = now === "" || options.includes(now) ? options : [...options, now];
   return choice(idOf(path), [...(empty === undefined ? [] : [["", empty]]), ...all], now,
-    v => set(path, v || null));
+    v => set(path, read(v)), path.at(-1) === key.name && key.label);
 }
 
-/** How a value is told: as one of several forms. */
-const forms = (path, choices, now, pick) => choice(idOf([...path, "how"]), choices, now, pick,
-  "how it is told");
-const small = (text, onclick, title) => button(text, onclick, { className: "small", title,
-  "aria-label": title });
-const without = (path, title) => small("×", () => set(path, null), title);
-/** A box with its name for each key of a table. @param {any[]} path @param {string[]} keys
- * @param {(path: any[], key: string) => any} make */
-const each = (path, keys, make) => keys.map(key => labelled(idOf([...path, key]), key,
-  make([...path, key], key)));
-/** A button for each key that a table may have besides. @param {any[]} path @param {string[]} keys
- * @param {(key: string) => any} usual @param {(key: string) => string} title */
-const adders = (path, keys, usual, title = () => undefined) => keys.map(key => small(`+ ${key}`,
-  () => set([...path, key], usual(key)), title(key)));
+// Forms by the schema of a kind.
+/** What the keys of a table may be. @type {Object<string, (now: any) => string[]>} */
+const NAMES = {
+  rock: now => (isTable(now) && "other" in now ? [] : rocks().length && rocks().length < 12
+    ? rocks() : [...rocks().slice(0, 11), "other"]),
+  region: () => { // also of numbers, as domains are
+    const { region, regions: all, columns: every = [] } = D.look ?? {};
+    const by = valueOf(["slopes", "by"]);
+    return (by === region ? all : every.find(c => c.name === by)?.words) ?? [];
+  },
+  metal: () => listNow("metals").map(metal => metal.name),
+  currency: () => [...new Set(listNow("metals").map(metal => metal.currency).filter(Boolean))],
+};
+const namesOf = (schema, now) => NAMES[schema.propertyNames.title](now);
 
-function amount(path, key) {
-  const now = valueOf(path);
-  const how = { object: "rock", string: "formula" }[typeof now] ?? "number";
-  const plain = how === "rock" ? Object.values(now)[0] : now;
-  const usual = typeof plain === "number" ? plain : key.default ?? 1;
-  const all = rocks().length && rocks().length < 12 ? rocks() : [...rocks().slice(0, 11), "other"];
-  const starts = { number: usual, formula: String(usual),
-    rock: Object.fromEntries(all.map(rock => [rock, usual])) };
-  const pick = forms(path, [["number", "one number"], ["rock", "by rock"],
-    ["formula", "column or formula"]], how, v => set(path, starts[v]));
-  if (how === "rock") {
-    const left = "other" in now ? [] : rocks().filter(rock => !(rock in now));
-    return amounts(pick, each(path, Object.keys(now), p => input(p, { width: 5 })),
-      adders(path, left, () => usual));
-  }
-  return amounts(pick, input(path, { label: key.label, ...(how === "formula"
-    ? { width: 34, list: "columns", read: word } : { width: 7, hint: key.default }) }));
+/** @param {any} v @param {any} schema @returns {boolean} whether a value is of this form */
+const fits = (v, { type, oneOf, properties, additionalProperties: each }) => (
+  properties ? isTable(v) && Object.keys(v).every(key => key in properties)
+    : oneOf ? oneOf.some(one => fits(v, one))
+      : each ? isTable(v) && Object.values(v).every(part => fits(part, each))
+        : type === "array" ? Array.isArray(v) : typeof v === type);
+
+/** @param {any} v @returns {any} the number that a value of several numbers stands for */
+const usual = v => (Array.isArray(v) ? usual(Array.isArray(v[0]) ? v[0] : v.at(-1))
+  : isTable(v) ? usual(Object.values(v)[0]) : v);
+
+/** @param {any} schema @param {any} now @param {Key} key @returns {any} what a form begins with:
+ * what stands there, as this form says it */
+function start(schema, now, key) {
+  const { type, items, properties, additionalProperties: each, oneOf } = schema;
+  if (properties) return [now, ...Object.values(now ?? {}), key.default, key.start].find(
+    v => fits(v, schema));
+  if (oneOf) return start(oneOf[0], now, key);
+  if (each) return Object.fromEntries(namesOf(schema, now).map(n => [n, start(each, now, key)]));
+  const [first] = schema.enum ?? schema.examples ?? [];
+  if (first !== undefined) return value(String(first));
+  const one = [now, key.default, key.start, 1].map(usual).find(v => typeof v === "number");
+  if (type !== "array") return type === "string" ? String(one) : one;
+  return items.type === "array" ? [0, 90, 180, 270].map(bearing => [bearing, one]) : [one];
 }
 
-function angles(path) {
+/** A form for what stands at a path. @param {any[]} path @param {Key} key @param {any} schema */
+function form(path, key, schema = key.schema) {
+  const { type, items = {}, properties, additionalProperties, oneOf } = schema;
+  if (schema.enum) return select(path, schema.enum, key, undefined, value);
+  if (properties || additionalProperties) return parts(path, key, schema);
+  if (oneOf) return several(path, key, oneOf);
+  if (type === "string") return input(path, key, { width: 34, list: "columns", read: word });
+  if (type !== "array") return input(path, key);
+  if (items.type === "array") return bearings(path, key, items);
+  const count = [...Array(schema.maxItems ?? 0).keys()]; // where a list has always as many
+  return schema.maxItems ? count.map(i => form([...path, i], key, items))
+    : input(path, key, { width: 34, shown: valueOf(path)?.join?.(", "), read: numbers });
+}
+
+/** A value that is told in one of several ways. @param {any[]} path @param {Key} key
+ * @param {any[]} ways their schemas */
+function several(path, key, ways) {
   const now = valueOf(path);
-  const isBy = Array.isArray(now);
-  const usual = keyOf("slopes", "angles").default;
-  const one = isBy ? now[0]?.[1] ?? usual : now ?? usual;
-  const pick = forms(path, [["one", "all round"], ["by", "by bearing"]], isBy ? "by" : "one",
-    v => set(path, v === "by" ? [0, 90, 180, 270].map(b => [b, one]) : one));
-  if (!isBy) {
-    return amounts(pick, input(path, { width: 5, label: "degrees", hint: usual }),
-      h("small", now === undefined ? `degrees; ${usual} unless given` : "degrees"));
-  }
+  const at = Math.max(ways.findIndex(way => fits(now ?? key.default, way)), 0);
+  if (now === undefined && ways[at].required) return form(path, key, ways[at]);
+  return amounts(choice(idOf([...path, "how"]), ways.map(way => way.title), ways[at].title,
+    title => set(path, start(ways.find(way => way.title === title), now, key)), "how it is told"),
+  form(path, key, ways[at]));
+}
+
+/** A table: a form for each key that it has, and a button for each that it may have besides.
+ * @param {any[]} path @param {Key} key @param {any} schema @param {() => any} end takes it out */
+function parts(path, key, schema, end = () => set(path, null)) {
+  const { properties, required = [], additionalProperties: each } = schema;
+  const now = valueOf(path);
+  if (required.length && !now) return small("say it", () => set(path, start(schema, now, key)));
+  const has = Object.keys(now ?? {});
+  const more = properties ? Object.keys(properties) : namesOf(schema, now);
+  const of = name => properties?.[name] ?? each;
+  if (has.length + more.length === 0) return h("small", "none");
+  const isWhole = required.length > 0 && path.at(-1) === key.name;
+  return amounts(has.map(name => labelled(idOf([...path, name]), name, [
+    form([...path, name], key, of(name)), !required.includes(name) && small("×",
+      () => (has.length > 1 ? set([...path, name], null) : end()), `take ${name} out`)])),
+  more.filter(name => !has.includes(name)).map(name => small(`+ ${name}`,
+    () => set([...path, name], start(of(name), now, key)), key.help)),
+  isWhole && out(path, `take ${key.label} out`));
+}
+
+/** A list of bearings, each with its degrees. @param {any[]} path @param {Key} key
+ * @param {any} items their schema */
+function bearings(path, key, items) {
+  const now = valueOf(path);
   const order = [...now.keys()].sort((i, j) => now[i][0] - now[j][0]);
-  const bearing = i => box(now[i][0], { id: idOf([...path, i, 0]), className: "w3",
-    value: now[i][0], title: "empty takes it out", "aria-label": `bearing ${i + 1}` },
-  (text, was) => (text.trim() === "" && now.length > 1
-    ? set(path, now.filter((_, n) => n !== i)) : set([...path, i, 0], value(text), was)));
-  const degrees = i => input([...path, i, 1], { width: 3, label: `degrees at ${now[i][0]}` });
-  const last = now[order.at(-1)] ?? [0, 45];
-  const next = [Math.round((last[0] + 360) / 2), last[1]];
-  return amounts(pick, h("table.bearings",
-    h("tr", h("th", "bearing"), order.map(i => h("td", bearing(i))),
-      h("td", small("+", () => set(path, [...now, next]), "a bearing more"))),
-    h("tr", h("th", "degrees"), order.map(i => h("td", degrees(i))))));
+  const [last, degrees] = now[order.at(-1)];
+  const more = [...now, [Math.round((last + 360) / 2), degrees]];
+  return [h("small", "at bearing: degrees "), order.map(i => h("span.word",
+    form([...path, i], key, items), now.length > 1 && small("×", () => set(path,
+      now.filter((_, n) => n !== i)), `take bearing ${now[i][0]} out`))),
+  small("+", () => set(path, more), "a bearing more")];
 }
 
-function regions(path) {
-  const whose = ["slopes", "by"];
-  const by = valueOf(whose);
-  const now = valueOf(path) ?? {};
-  const own = valueOf(["slopes", "angles"]) ?? 45;
-  const { region: seen, regions: there = [], columns: all = [] } = D.look ?? {};
-  if (!by) {
-    const begin = () => change({ path: whose, value: seen }, { path, value: { [there[0]]: own } });
-    return h("small", seen ? [`${seen} may say it: ${there.join(", ")} `,
-      small(`regions by ${seen}`, begin)] : "none");
-  }
-  const out = name => (Object.keys(now).length > 1 ? set([...path, name], null)
-    : change({ path, value: null }, { path: whose, value: null }));
-  // also of numbers, as domains are
-  const words = by === seen ? there : all.find(c => c.name === by)?.words ?? [];
-  return h("div", Object.keys(now).map(name => h("div.region", h("b", name),
-    angles([...path, name]), small("×", () => out(name), `${name} has the slopes of all others`))),
-  adders(path, words.filter(w => !(w in now)), () => own, w => `angles of its own for ${w}`));
+// Forms of kinds that have more to say than their schema.
+function regions(path, key) {
+  const { region, regions: there = [] } = D.look ?? {};
+  const both = (by, now) => change({ path: ["slopes", "by"], value: by }, { path, value: now });
+  if (valueOf(["slopes", "by"])) return parts(path, key, key.schema, () => both(null, null));
+  return h("small", region ? [`${region} may say it: ${there.join(", ")} `,
+    small(`regions by ${region}`, () => both(region, { [there[0]]: valueOf(["slopes", "angles"])
+      ?? 45 }))] : "none");
 }
 
 function words(path) {
@@ -127,87 +168,75 @@ function chosenRocks(path) {
   now ? small("all but air", () => set(path, null)) : h("small", "all but air"));
 }
 
-function fill(path) {
+function fill(path, key) {
   const now = valueOf(path);
-  const usual = { tonnes: 10400, rock: rocks()[0] ?? "waste" };
-  if (!now) return small("say what is in a hole", () => set(path, usual));
   const domain = valueOf(["slopes", "by"]) ?? D.look?.region;
   const lists = { rock: rocks(), [domain]: D.look?.region === domain ? D.look?.regions : null };
-  const own = (p, key) => (lists[key] ? choice(idOf(p), [...new Set([...lists[key], now[key]]
-    .map(String))], String(now[key]), v => set(p, value(v))) : input(p, { width: 7 }));
-  return amounts(each(path, Object.keys(now), own), adders(path,
-    domain && !(domain in now) ? [domain] : [], () => value(lists[domain]?.[0] ?? ""),
-    () => "of which region a hole is"), without(path, "take it out"));
-}
-
-function size(path) {
-  if (!valueOf(path)) return small("say it", () => set(path, D.look?.size ?? [20, 20, 10]));
-  return amounts([0, 1, 2].map(i => input([...path, i], { width: 4, label: `along ${"xyz"[i]}` })),
-    without(path, "as the table's columns of sizes say"));
-}
-
-function factors(path) {
-  const now = valueOf(path) ?? keyOf("shells", "factors").default;
-  if (Array.isArray(now)) {
-    const read = text => text.split(",").map(value);
-    return amounts(input(path, { width: 34, shown: now.join(", "), read }),
-      small("as a series", () => set(path, { from: 0.3, to: 1.2, step: 0.05 })));
-  }
-  const list = (D.check?.factors ?? []).map(f => f / 1000);
-  const own = (p, key) => box(now[key], { id: idOf(p), className: "w4", value: now[key] },
-    (text, was) => (valueOf(path) ? set(p, value(text), was)
-      : set(path, { ...now, [key]: value(text) })));
-  return amounts(each(path, Object.keys(now), own),
-    list.length > 0 && small("as a list", () => set(path, list)));
+  const of = name => (lists[name] ? { enum: lists[name] } : { type: "number" });
+  const names = ["tonnes", "rock", ...(domain ? [domain] : []), ...Object.keys(now ?? {})];
+  if (!now) return small("say what is in a hole", () => set(path, { tonnes: 10400,
+    rock: rocks()[0] ?? "waste" }));
+  return amounts(parts(path, key, { properties: Object.fromEntries(names.map(n => [n, of(n)])) }),
+    out(path, "take it out"));
 }
 
 const FORMS = {
-  number: (p, k) => input(p, { hint: k.default }),
-  count: (p, k) => input(p, { width: 5, hint: k.default }),
-  text: (p, k) => input(p, { read: word, hint: k.default }),
-  file: p => input(p, { width: 34, read: word }),
-  choice: (p, k) => select(p, k.choices, valueOf(p) ? undefined : k.default ?? "found out"),
+  text: (p, k) => input(p, k, { width: 9, read: word }),
+  file: (p, k) => input(p, k, { width: 34, read: word }),
+  formula: (p, k) => input(p, k, { width: 34, list: "columns" }),
+  choice: (p, k) => select(p, k.choices, k, valueOf(p) ? undefined : k.default ?? "found out"),
   flag: p => tick(idOf(p), "yes", valueOf(p) === true, is => set(p, is)),
-  column: p => select(p, columns(), "none"),
-  columns: (path, k) => h("div.grid", each(path, k.choices, (p, name) => {
-    const found = D.look?.names?.[name];
-    return select(p, columns(), found && !valueOf(p) ? `(${found})` : "none");
+  column: (p, k) => select(p, columns(), k, "none"),
+  columns: (path, k) => h("div.grid", k.choices.map(name => {
+    const [p, found] = [[...path, name], D.look?.names?.[name]];
+    return labelled(idOf(p), name, select(p, columns(), k, found && !valueOf(p) ? `(${found})`
+      : "none"));
   })),
-  rocks: chosenRocks, formulas: words,
-  words, size, fill, amount, angles, regions, metals, factors,
+  size: (p, k) => (valueOf(p) ? amounts(form(p, k), out(p, "as the table's columns of sizes say"))
+    : small("say it", () => set(p, D.look?.size ?? k.start))),
+  rocks: chosenRocks, formulas: words, words, fill, regions, metals: tables, processes: tables,
 };
+const formOf = (path, key) => (FORMS[key.kind] ?? form)(path, key);
 
-function metals(path) {
-  const now = metalsNow();
-  const used = new Set(now.flatMap(Object.keys));
-  const all = D.home.keys.filter(k => k.section === "metals" && (k.is_written || used.has(k.name)));
-  const short = all.filter(k => k.name !== "recovery");
-  const recovery = all.find(k => k.name === "recovery");
-  const examples = Object.values(D.look?.metals ?? {}); // of another column, where that was chosen
-  const mark = (metal, key) => example(metal[key.name], examples.map(m => m[key.name]), key);
-  const cell = (metal, i, key) => {
-    const p = [...path, i, key.name];
-    const own = ["number", "text"].includes(key.kind)
-      ? input(p, { width: 6, hint: key.default, read: key.kind === "text" ? word : value })
-      : FORMS[key.kind](p, key);
-    own.setAttribute("aria-label", `${key.label} of ${metal.name}`);
-    return h("td", own, mark(metal, key));
-  };
-  const rows = now.map((metal, i) => h("tbody",
-    h("tr", short.map(key => cell(metal, i, key)),
-      h("td", now.length > 1 && without([...path, i], `take ${metal.name} out`))),
-    h("tr.second", h("th", "recovery"), h("td", { colSpan: 7 },
-      amount([...path, i, "recovery"], recovery), mark(metal, recovery))),
-    h("tr", h("td", { colSpan: 8 }, faults().filter(f => isOf(f, metal, i)).map(faultBox)))));
-  const heads = short.map(k => h("th", { title: k.help }, k.label));
-  return h("div", h("table.metals", h("thead", h("tr", heads, h("th"))), rows),
-    D.look?.metals && small("+ a metal, or a penalty", () => addMetal()));
+// Lists of tables: metals, and ways to treat a block.
+/** Of each a row with what stands in a line as `init` writes it, and its further keys below.
+ * @param {any[]} path @param {Key} list */
+function tables(path, { name: list }) {
+  const now = valueOf(path) ?? [];
+  const isShort = k => k.is_written && ["text", "number", "choice", "column"].includes(k.kind);
+  const [short, long] = [true, false].map(is => keysIn(list).filter(k => isShort(k) === is));
+  const examples = Object.values(D.look?.[list] ?? {}); // of another column, if that was chosen
+  const cell = (each, i, k) => [formOf([...path, i, k.name], { ...k,
+    label: `${k.label} of ${each.name}`, default: k.default ?? valueOf(["economics", k.name]) }),
+  example(each[k.name], examples.map(one => one[k.name]), k)];
+  const rows = now.map((each, i) => h("tbody",
+    h("tr", short.map(k => h("td", cell(each, i, k))),
+      h("td", (now.length > 1 || list === "processes")
+        && out(now.length > 1 ? [...path, i] : path, `take ${each.name} out`))),
+    h("tr.second", h("td", { colSpan: 8 }, amounts(long.map(k => labelled(
+      idOf([...path, i, k.name]), [k.label, h("small", ` ${unitOf(k)}`)], cell(each, i, k)))))),
+    h("tr", h("td", { colSpan: 8 }, faults().filter(f => isOf(f, list, each, i)).map(faultBox)))));
+  return h("div", now.length > 0 && h("table.metals", h("thead", h("tr", short.map(k => h("th",
+    { title: k.help }, k.label)), h("th"))), rows), list === "processes"
+    ? small("+ a way to treat a block, as a heap leach", () => addProcess())
+    : D.look?.metals && small("+ a metal, or a penalty", () => addMetal()));
+}
+
+/** Adds a way to treat a block; the first is the mill as it stands there, whose place they take. */
+function addProcess() {
+  const [path, now] = [["economics", "processes"], listNow("processes")];
+  const name = free(n => `process ${n}`, now.map(each => each.name), now.length + 1);
+  if (now.length) return set([...path, now.length], { name, cost: now.at(-1).cost });
+  const was = ["processing", "mill"].map(key => ["economics", key]);
+  const [cost, rocks] = was.map(valueOf);
+  return change({ path, value: [{ name: "mill", ...(rocks && { rocks }), cost }] },
+    ...was.map(each => ({ path: each, value: null })));
 }
 
 /** Adds a metal as `pitplan init` writes that of a column: of the next one that none uses, unless
  * it is told. @param {string} column */
 async function addMetal(column) {
-  const now = metalsNow();
+  const now = listNow("metals");
   const next = Object.keys(D.look.metals).find(c => !now.some(m => m.grade === c)) ?? "GRADE";
   const more = D.look.metals[column ?? next];
   const name = free(n => more.name + (n > 1 ? n : ""), now.map(m => m.name));
@@ -234,16 +263,16 @@ function example(now, examples, key) {
     && h("span.example", { title }, "example");
 }
 
-/** Whether an error is of one of a metal's own fields. */
-const isOf = (f, metal, i) => f.key?.length > 3 && f.key[1] === "metals"
-  && [metal.name, i].includes(f.key[2]);
+/** Whether an error is of one of the own fields of a table in a list of them. */
+const isOf = (f, section, each, i) => f.key?.length > 3 && f.key[1] === section
+  && [each.name, i].includes(f.key[2]);
 
 /** @param {any} remedy as `Remedy.as_data` has it @returns {any} a button that puts it in */
 export function mend(remedy) {
   if (!remedy || !D.study?.values) return null;
-  const { key: path, value: told, other, adds, when: title } = remedy;
+  const { key: path, value: right, other, adds, when: title } = remedy;
   const had = valueOf(path);
-  const now = adds && Array.isArray(had) ? [...new Set([...had, ...told])] : told;
+  const now = adds && Array.isArray(had) ? [...new Set([...had, ...right])] : right;
   return (other === null ? [now] : [now, other]).map(v => button(
     `put it in: ${path.at(-1)} = ${JSON.stringify(v)}`, () => change({ path, value: v }),
     { className: "small mend", title }));
@@ -276,32 +305,31 @@ function rowsAbout(fault) {
       (r ? "td" : "th") + (i === marked ? ".mark" : ""), c))))));
 }
 
-/** @param {string} name as "economics.mining" @returns {any} its field */
-export function field(name) {
-  const path = name.split(".");
-  const k = keyOf(...path);
-  const isOfMetal = f => metalsNow().some((metal, i) => isOf(f, metal, i));
-  const own = faults().filter(f => same(f.key?.slice(0, 2), path) && !isOfMetal(f));
-  const unit = ["factors", "angles", "regions"].includes(k.kind) ? "" : units(k.unit);
-  const title = `[${path[0]}] ${path[1]}: ${k.help}`;
-  return h("div", { className: `field k-${k.kind}`, id: `f.${name}` },
+/** @param {Key} k @returns {any} its field */
+function field(k) {
+  const path = [k.section, k.name];
+  const isWithin = f => FORMS[k.kind] === tables
+    && listNow(k.name).some((each, i) => isOf(f, k.name, each, i));
+  const own = faults().filter(f => same(f.key?.slice(0, 2), path) && !isWithin(f));
+  const title = `[${k.section}] ${k.name}: ${k.help}`;
+  return h("div", { className: `field k-${k.kind}`, id: `f.${path.join(".")}` },
     h("label.name", { htmlFor: idOf(path), title }, k.label),
-    h("div.value", FORMS[k.kind](path, k), " ", h("small.unit", unit),
+    h("div.value", formOf(path, k), " ", h("small.unit", unitOf(k)),
       example(valueOf(path), [path.reduce(stepped, D.look?.init)], k)), own.map(faultBox));
 }
 
-/** @param {...string} names */
-export const fields = (...names) => names.map(field);
+/** @param {string} section @param {(name: string) => boolean} isOne @returns {any[]} its fields */
+export const fields = (section, isOne = () => true) => keysIn(section)
+  .filter(k => isOne(k.name)).map(field);
 export const datalist = () => h("datalist", { id: "columns" },
   columns().map(name => h("option", { value: name })));
 
-/** What is wrong, and has no field on a screen that shows these. @param {string[]} shown */
-export function banner(shown) {
-  const isHere = f => f.key?.length >= 2 && shown.includes(`${f.key[0]}.${f.key[1]}`);
-  const isElsewhere = f => f.key?.length && screenOf(f.key) !== where().screen;
-  const others = faults().filter(isElsewhere).map(f => screenOf(f.key));
-  const count = name => counted(others.filter(other => other === name).length, "error");
-  return [faults().filter(f => !isHere(f) && !isElsewhere(f)).map(faultBox),
-    [...new Set(others)].map(name => look(`${count(name)} on `,
-      h("a", { href: link(D.study.name, name) }, screens[name].label)))];
+/** What is wrong here and has no field, and how much is wrong on other screens. */
+export function banner() {
+  const isElsewhere = f => f.key?.length && placeOf(f.key) !== here();
+  const places = faults().filter(isElsewhere).map(f => placeOf(f.key));
+  const count = place => counted(places.filter(other => other === place).length, "error");
+  return [faults().filter(f => !isElsewhere(f) && !keyOf(...f.key ?? [])).map(faultBox),
+    [...new Set(places)].map(place => look(`${count(place)} on `,
+      h("a", { href: link(D.study.name, place) }, labelOf(place))))];
 }

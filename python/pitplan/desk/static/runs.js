@@ -1,6 +1,7 @@
 // Runs: how far one is, and what it has said, from its events.
-import { button, card, chip, h, look, number, table, tick, tip, when } from "./dom.js";
-import { D, draw, eventsOf, far, file, going, keep, line, start, typed } from "./desk.js";
+import { amounts, button, card, chip, choice, entry, h, labelled, look, number, table, tick, tip,
+  when } from "./dom.js";
+import { D, draw, eventsOf, file, going, keep, start, typed } from "./desk.js";
 import { faultBox } from "./fields.js";
 
 /** A button with the commands that it runs. @param {string} id @param {string} label
@@ -13,6 +14,18 @@ export function runner(id, label, asked, { needs = false, main = false } = {}) {
     { id, className: main ? "main" : "", disabled }), typed(asked));
 }
 
+/** Boxes to tick, to choose from a list, or to type in. @param {any} own what is chosen
+ * @param {Object<string, any>} all of each its words, and a list or attributes of a box */
+export const boxes = (own, all) => amounts(Object.entries(all).map(([key, told]) => {
+  const [label, how, read] = [told].flat();
+  if (!how) return tick(key, label, own[key], keep(own, key));
+  return labelled(key, label, Array.isArray(how) ? choice(key, how, own[key], keep(own, key, read))
+    : entry(key, own[key], keep(own, key, read), { className: "w5", ...how }));
+}));
+/** @param {Object<string, string>} own @returns {Object<string, number>} those that were typed */
+export const numbersIn = own => Object.fromEntries(Object.entries(own)
+  .filter(([, text]) => text !== "").map(([key, text]) => [key, Number(text)]));
+
 const by = { schedule: false };
 /** @param {string} words @returns {any} a box to tick, where the study has a plan by years */
 export const byYears = words => D.study.state.schedule && tick("by.years", words, by.schedule,
@@ -21,9 +34,10 @@ export const byYears = words => D.study.state.schedule && tick("by.years", words
 export const years = () => (by.schedule && D.study.state.schedule ? { schedule: true } : {});
 
 /** What stands above results that study.toml doesn't give any more, and above a file that the
- * latest run hasn't made. @param {any} made the file @returns {any[]} */
-export function before(made) {
-  const run = D.runs.find(each => ["all", "shells"].includes(each.what));
+ * latest run hasn't made. @param {(f: any) => boolean} isOne @returns {any[]} */
+export function before(isOne) {
+  const [made] = isOne ? filesOf(isOne) : [];
+  const run = D.study.runs.find(each => ["all", "shells"].includes(each.what));
   const isEarlier = made && run && run.state !== "done" && made.when < run.began;
   return [D.study.state.old && h("p.look.before",
     "These are of the study before it was changed: build, and find the pits again."),
@@ -52,13 +66,18 @@ const SAID = {
 /** @param {{what: string, at: number, of: number}} how */
 export const bar = how => h("progress", { "aria-label": how.what,
   ...(how.of ? { value: how.at, max: how.of } : {}) });
-/** @param {any} f @returns {string} the address of a file, as it is now */
-export const fresh = f => file(f.path, `?of=${f.when}`);
-/** @param {any[]} files @returns {any} pictures, if there are some */
-export const pictures = files => files.length > 0 && h("div.pictures", files.map(f => h("figure",
-  h("img", { src: fresh(f), alt: f.path }), h("figcaption", f.path))));
+/** @param {(f: any) => boolean} isOne @returns {any[]} files, the latest first */
+const filesOf = isOne => D.study.files.filter(isOne).sort((a, b) => b.when - a.when);
+const fresh = f => file(f.path, `?of=${f.when}`); // as it is now
+/** @param {(f: any) => boolean} isOne @returns {any} pictures, if there are some */
+export const pictures = isOne => filesOf(isOne).length > 0 && h("div.pictures", filesOf(isOne)
+  .map(f => h("figure", h("img", { src: fresh(f), alt: f.path }), h("figcaption", f.path))));
+/** @param {string} path of a page @param {string} title @returns {any} it, if it is there */
+export const framed = (path, title) => filesOf(f => f.path === path).map(f => h("iframe.page", {
+  src: fresh(f), title, sandbox: "allow-scripts allow-downloads" }))[0];
 const NAMES = { all: "build, and pits", shells: "pits", phases: "pushbacks", compare: "design",
-  vary: "what if", plot: "picture", export: "files", risk: "plan under realisations" };
+  vary: "what if", schedule: "plan by years", plot: "picture", export: "files",
+  risk: "plan under realisations" };
 /** @param {any} run @returns {string} what it is called */
 export const nameOf = run => NAMES[run.what] ?? run.what;
 const CHIPS = { done: "good", failed: "bad", killed: "bad", running: "" };
@@ -76,14 +95,13 @@ function told(run) {
   }
   const parts = [];
   for (const event of list) {
-    if (event.event === "begin") parts.push([event, []]);
-    else parts.at(-1)?.[1].push(SAID[event.event]?.(event));
+    if (event.event === "begin") parts.push([]);
+    else parts.at(-1)?.push(SAID[event.event]?.(event));
   }
-  const how = far(run);
-  return [run.state === "running" && h("div.far", bar(how), ` ${how.command}: ${how.what}`),
-    parts.map(([begin, rest], i) => h("details.step", { id: `${run.number}.${i}`,
+  return [run.far && h("div.far", bar(run.far), ` ${run.far.command}: ${run.far.what}`),
+    parts.map((rest, i) => h("details.step", { id: `${run.number}.${i}`,
       open: i === parts.length - 1 || rest.some(e => e?.className === "fault") || i < 2 },
-    h("summary", h("code", line(begin.command))), rest)),
+    h("summary", h("code", run.typed[i])), rest)),
     run.state === "killed" && tip("Its process was ended from outside. What was done is kept: the",
       " same again goes on from there.")];
 }
@@ -92,9 +110,8 @@ function told(run) {
 function shown(run, isOpen) {
   const head = [h("b", nameOf(run)), " ", chipOf(run), " ", h("span.quiet",
     `by ${run.who}, ${when(run.began)}, ${number(run.seconds, 1)} s `), logOf(run)];
-  if (isOpen) {
-    return card(null, h("div.run-head", head), run.state === "done" && before(), told(run));
-  }
+  const old = run.state === "done" && before();
+  if (isOpen) return card(null, h("div.run-head", head), old, told(run));
   const ontoggle = e => e.target.open && !D.events[run.number] && eventsOf(run.number).then(draw);
   return h("details.card", { ontoggle, id: `run.${run.number}` },
     h("summary", head, " ", linesOf(run)), D.events[run.number] && told(run));
@@ -103,7 +120,7 @@ function shown(run, isOpen) {
 /** The runs of some kinds, the latest open. @param {...string} kinds */
 export function runsOf(...kinds) {
   const isOver = run => run.state === "failed"
-    && D.runs.some(other => other.state === "done" && other.number > run.number);
-  return D.runs.filter(run => kinds.includes(run.what)).slice(0, 20)
+    && D.study.runs.some(other => other.state === "done" && other.number > run.number);
+  return D.study.runs.filter(run => kinds.includes(run.what)).slice(0, 20)
     .map((run, i) => shown(run, i === 0 && !isOver(run)));
 }
