@@ -2,8 +2,9 @@
 the same mines by a precedence file, in which Python writes the pairs that it finds itself, and with what Python says of both.
 
 The mines are those of regions.py: boxes with holes, with places below nothing, in any order of blocks, of up to four regions.
-A certificate is the same by either, is read by plain_check.py, and is accepted over the other too. One with a thing changed
-gets the same line over either, that of plain_check.py. The lines of shells and of a report are added up from the pits of
+A certificate is the same by either, is read by plain_check.py, and is accepted over the other too. So is that of a search over
+places (`--method pseudoflow`), which has the same pit and another flow. One with a thing changed gets the same line over either,
+that of plain_check.py. The lines of shells and of a report are added up from the pits of
 certificates at the same factors.
 """
 import os
@@ -138,6 +139,20 @@ def report_of(mine, pits, worths):
     ]
 
 
+def missed_by_search(program, folder, mine, factor, pit):
+    """What is wrong with the certificate of a search over places, whose flow is another, and with its checks."""
+    words = [*MODELS["slopes"], "--factor", str(factor), "--method", "pseudoflow"]
+    status, text, errors = run(program, ["solve", *words], folder)
+    (folder / "c").write_bytes(text)
+    checks = [run(program, ["check", *words, "c"], folder)[:2] for words in MODELS.values()]
+    refusal, said, _ = pit_of(mine, factor, text) if status == 0 else (errors, None, None)
+    if refusal or said.pit != pit:
+        return ["%d: a search gave %d, %r, %s" % (factor, status, text, refusal)]
+    if checks[0] != checks[1] or not checks[0][1].startswith(b"ACCEPTED %d " % len(pit)):
+        return ["%d: of a search checked as %r and %r" % (factor, *checks)]
+    return []
+
+
 def solved(program, folder, mine):
     """The pits at the factors, the worths at each, and what is wrong with their certificates."""
     pits, worths, faults = [], [], []
@@ -154,6 +169,7 @@ def solved(program, folder, mine):
             faults.append("%d: %s, solved as %r and %r" % (factor, refusal, *by.values()))
         if checks[0] != checks[1] or not checks[0][1].startswith(line):
             faults.append("%d: checked as %r and %r" % (factor, *checks))
+        faults += missed_by_search(program, folder, mine, factor, said.pit)
         pits.append(said.pit)
         worths.append(worth)
     faults += misjudged(program, folder, mine, worth, by["slopes"][1])

@@ -20,3 +20,6 @@ pub mod StreamAnswers
 pub mod Reduced
 pub mod RefusedRuns
 pub mod SlopePairs
+pub mod SmallSums
+pub mod HeldLists
+pub mod PlacedAnswers

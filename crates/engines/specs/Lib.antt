@@ -11,6 +11,12 @@ pub mod NetAnswers
 -- `solve`, and which solver makes the flow
 pub mod Methods
 pub mod Solving
+-- amounts of few digits
+pub mod Small
+-- a certificate that was found by places
+pub mod Placed
+-- the list of pairs that places denote
+pub mod HeldLists
 -- `slopes`, and what reduced pairs decide
 pub mod Slopes
 pub mod Reduced

@@ -71,7 +71,10 @@ pub(crate) fn judge<R: Threads + Sync, C: CountedRead>(
 }
 
 // The header of a certificate for a mine of n blocks.
-fn header_for<C: CountedRead>(stream: &mut CertStream<C>, n: u32) -> Result<Header, EngineFault>
+pub(crate) fn header_for<C: CountedRead>(
+    stream: &mut CertStream<C>,
+    n: u32,
+) -> Result<Header, EngineFault>
     requires count { C.failed stream.old.lines.from < 2 ^ 64 - 1 }
     requires fresh { IsFresh stream.old }
     ensures read { IfSome (C.remaining stream.old.lines.from) (λ c. MatchResult result

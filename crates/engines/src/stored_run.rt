@@ -26,8 +26,8 @@ pub const CERTIFICATE: &[u8] =
 
 // A text that the program carries, and what is left of it. No read of it fails.
 #[derive(Drop)]
-struct StoredText<'a> {
-    left: &'a [u8],
+pub(crate) struct StoredText<'a> {
+    pub(crate) left: &'a [u8],
 }
 
 impl Read for StoredText<'_> {

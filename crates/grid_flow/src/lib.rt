@@ -4,8 +4,8 @@
 //!
 //! - Only ore and what it rests on is searched. These blocks are numbered depth first (`numbering`), so that what a walk
 //!   looks at stands close together, and the others take no memory but a link each.
-//! - The first labels are exact where nothing rests on itself (`first_labels`): how many steps up lead from a block, at the
-//!   fewest, to one of no positive worth.
+//! - The first labels (`first_labels`) are at most how many steps up lead from a block, at the fewest, to one of no positive
+//!   worth.
 //! - Who precedes a block is asked each time anew (`placed_above`), and no pair is kept.
 //! - The arcs of the forest that the search leaves are the pairs over which anything flows, at most one for each block.
 //!

@@ -10,6 +10,8 @@
 //!   worth. Where none leads to such a block, it is in the pit, and takes no more part.
 //! - Only the other blocks of positive worth and what they rest on are searched (`part`). They are numbered depth first
 //!   (`numbering`), so that what a walk looks at stands close together, with the pairs among them (`arcs`).
+//! - A search asks what a block rests on of whoever can tell (`leading`): here of a list of these pairs, in `grid_flow` of the
+//!   places of the blocks.
 //! - Amounts are single numbers of 64 bits, or of 128, where the worths can be scaled to such in the same order (`units`), and
 //!   else those of the net (`amounts`).
 //! - All arcs of the source and the sink are saturated at first, so that each block has its worth as its excess, or as its
@@ -23,9 +25,10 @@
 //! - The search hands on its forest alone (`branches`). What an arc of it carries is what the blocks under it are worth, in the
 //!   net's amounts; what the roots have left, or lack, is taken off the arcs that brought it (`recovery`).
 //!
-//! Stands on `closure_net`, `ordered_group` and `prec_file`. Promises upward: the call ends within the number of turns that
-//! it is given, and the flow has the lengths of the net. Nothing is claimed of the amounts in it: a checker decides whether
-//! it is a greatest flow, so a mistake in here would cost time and never a wrong answer.
+//! Stands on `closure_net`, `ordered_group` and `prec_file`. Promises upward: [`solve`] ends within the number of turns that
+//! it is given, and the flow has the lengths of the net; so does [`grow`], which leaves the forest and the pit that it found.
+//! Nothing is claimed of the amounts in a flow, nor of forest and pit: a checker decides whether it is a greatest flow, so a
+//! mistake in here would cost time and never a wrong answer.
 #![tactic(auto)]
 
 mod amounts;

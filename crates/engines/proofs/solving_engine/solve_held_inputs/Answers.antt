@@ -3,7 +3,7 @@ use Rattle.engines.specs.Solving.{Solves}
 use Rattle.engines.proofs.Answered.{unsolved, answered}
 use Rattle.mine_inputs.proofs.Failed.{raised, stayed, went}
 use Rattle.mine_inputs.proofs.MineDevices.{mine_once, other_once}
-use Rattle.engines.proofs.solving_engine.solve_engine.Goals as goal
+use Rattle.engines.proofs.solving_engine.solve_held_inputs.Goals as goal
 
 pub returns-in_err-mine-clause-answer : goal.returns-in_err-mine-clause-answer
 returns-in_err-mine-clause-answer g c =
@@ -16,19 +16,19 @@ returns-in_err-mine-clause-answer g c =
 pub returns-clause-answer : goal.returns-clause-answer
 returns-clause-answer g c =
     let asked = c.args.asked in
-    answered c.args.inputs.now g.D.Read.remaining asked.factor (λ texts. Solves texts asked.group asked.effort.method asked.effort.steps (g.W.Write.contents c.args.out.now) (g.W.Write.contents c.solve_mine.new.out) c.solve_mine.result)
-    c.in_ok-mine.mine.nanos.items c.in_ok-mine.mine.rests c.in_ok-mine.mine.price c.in_ok-mine.ensures.read c.solve_mine.ensures.answer
+    answered c.args.inputs.now g.D.Read.remaining asked.factor (λ texts. Solves texts asked.group asked.effort.method asked.effort.steps (g.W.Write.contents c.args.out.now) (g.W.Write.contents c.solve_held.new.out) c.solve_held.result)
+    c.in_ok-mine.mine.nanos.items c.in_ok-mine.mine.pairs c.in_ok-mine.mine.price c.in_ok-mine.ensures.read c.solve_held.ensures.answer
 
 pub returns-in_err-mine-clause-device : goal.returns-in_err-mine-clause-device
 returns-in_err-mine-clause-device g c = λ d.
-    mine_once c.args.inputs.now c.mine_to_solve.new.inputs g.D.CountedRead.failed _ _ (raised c.from_residual.result c.in_err-mine.field-0.0 c.from_residual.ensures.1 c.in_err-mine.ensures.device d) refl
+    mine_once c.args.inputs.now c.held_to_solve.new.inputs g.D.CountedRead.failed _ _ (raised c.from_residual.result c.in_err-mine.field-0.0 c.from_residual.ensures.1 c.in_err-mine.ensures.device d) refl
 
 pub returns-in_err-mine-clause-kept : goal.returns-in_err-mine-clause-kept
 returns-in_err-mine-clause-kept g c = λ n. (stayed c.from_residual.result c.in_err-mine.field-0.0 c.from_residual.ensures.1 c.in_err-mine.ensures.kept n, refl)
 
 pub returns-clause-device : goal.returns-clause-device
 returns-clause-device g c = λ d.
-    other_once c.args.inputs.now c.mine_to_solve.new.inputs g.D.CountedRead.failed (g.W.CountedWrite.failed c.args.out.now) (g.W.CountedWrite.failed c.solve_mine.new.out) (went c.in_ok-mine.mine c.in_ok-mine.ensures.kept) (c.solve_mine.ensures.device.0 d)
+    other_once c.args.inputs.now c.held_to_solve.new.inputs g.D.CountedRead.failed (g.W.CountedWrite.failed c.args.out.now) (g.W.CountedWrite.failed c.solve_held.new.out) (went c.in_ok-mine.mine c.in_ok-mine.ensures.kept) (c.solve_held.ensures.device.0 d)
 
 pub returns-clause-kept : goal.returns-clause-kept
-returns-clause-kept g c = λ n. (went c.in_ok-mine.mine c.in_ok-mine.ensures.kept, c.solve_mine.ensures.kept n)
+returns-clause-kept g c = λ n. (went c.in_ok-mine.mine c.in_ok-mine.ensures.kept, c.solve_held.ensures.kept n)

@@ -1,0 +1,82 @@
+-- Small amounts: every sum that a check makes of them fits.
+use Rattle.fixed_worth.proofs.Common.{◌≡◌, ℕ, zero, suc, ◌+◌, ◌*◌, ◌^◌, ◌<◌, ◌≤◌, ◌==◌, ◌||◌, Bool, true, false, cond, IsTrue, ℤ, pos, neg_ℤ, ◌≤ℤ◌, List, [], ◌∷◌, length, get_or, Option, None, Some, inl, inr, ◌⊎◌, refl, sym, ap, ◌∙◌, subst, arith, ints, cases_Bool}
+use Rattle.ordered_group.specs.Prelude.{Amount, plus, minus, positive, larger_of, amount_cmp, zero_amount, FitsPair, total, where_so, at_end, amount_at}
+use Rattle.std.specs.declared.cmp.Ordering.{Ordering}
+use Rattle.std.specs.declared.cmp.Ordering.TheVariants.{Less, Equal, Greater}
+use Rattle.fixed_worth.specs.declared.limits.TheConstants.{MOST_BLOCKS}
+use Rattle.prec_file.specs.Rests.{IsRests, has_pair, from_at, to_at}
+use Rattle.prec_file.specs.declared.limits.TheConstants.{MOST_PAIRS}
+use Rattle.closure_net.specs.Prelude.{NetView, FlowView, IsNet, holds_of, residual_at}
+use Rattle.check_pit.specs.Fits.{EndFits, BalanceFits, SetFits, ResidualFits, SumsFit}
+use Rattle.engines.specs.Small.{IsSmall, AreSmall, IsSmallFlow}
+
+-- at most so many times 2^97, above and below zero
+abbrev Bounded : ℕ → Amount → Type 0
+Bounded m x = ((neg_ℤ (pos (m * 2 ^ 97)) ≤ℤ x.w) × (x.w ≤ℤ pos (m * 2 ^ 97))) × ((neg_ℤ (pos (m * 2 ^ 97)) ≤ℤ x.c) × (x.c ≤ℤ pos (m * 2 ^ 97)))
+
+plus_bounded : (m : ℕ) (x y : Amount) → Bounded m x → Bounded 1 y → Bounded (suc m) (plus x y)
+plus_bounded m x y a b = ((omega (arith, ints, a, b), omega (arith, ints, a, b)), (omega (arith, ints, a, b), omega (arith, ints, a, b)))
+
+sum_bounded : (g : ℕ → Amount) (m : ℕ) → ((k : ℕ) → k < m → Bounded 1 (g k)) → Bounded m (total g m)
+sum_bounded g zero h = ((omega (arith, ints), omega (arith, ints)), (omega (arith, ints), omega (arith, ints)))
+sum_bounded g (suc m) h = plus_bounded m (total g m) (g m) (sum_bounded g m (λ k l. h k (omega (arith, l)))) (h m (omega arith))
+
+small_bounded : (x : Amount) → IsSmall x → Bounded 1 x
+small_bounded x s = ((omega (arith, ints, s), omega (arith, ints, s)), (omega (arith, ints, s), omega (arith, ints, s)))
+
+-- zero is small
+pub zero_small : IsSmall zero_amount
+zero_small = ((omega (arith, ints), omega (arith, ints)), (omega (arith, ints), omega (arith, ints)))
+
+none_bounded : Bounded 1 zero_amount
+none_bounded = ((omega (arith, ints), omega (arith, ints)), (omega (arith, ints), omega (arith, ints)))
+
+where_bounded : (t : Bool) (x : Amount) → Bounded 1 x → Bounded 1 (where_so t x)
+where_bounded true x h = h
+where_bounded false x h = none_bounded
+
+fits : (m : ℕ) (x : Amount) → m ≤ 2 ^ 28 → Bounded m x → FitsPair x
+fits m x l b = (omega (arith, ints, l, b), omega (arith, ints, l, b))
+
+-- ---- the sums of a check
+
+ends_fit : (start : Amount) (end : ℕ → ℕ) (f : ℕ → Amount) (b m : ℕ) → m ≤ MOST_PAIRS → IsSmall start → ((k : ℕ) → k < m → IsSmall (f k)) → EndFits start end f b m
+ends_fit start end f b m few s h k l e =
+    let sum = sum_bounded (λ j. where_so (end j == b) (f j)) k (λ j i. where_bounded (end j == b) (f j) (small_bounded (f j) (h j (omega (arith, i, l))))) in
+    let a = small_bounded start s in
+    let y = small_bounded (f k) (h k l) in
+    let both : Bounded (suc k) (plus start (at_end end f k b)) = ((omega (arith, ints, sum, a), omega (arith, ints, sum, a)), (omega (arith, ints, sum, a), omega (arith, ints, sum, a))) in
+    fits (suc (suc k)) (plus (plus start (at_end end f k b)) (f k)) (omega (arith, few, l)) (plus_bounded (suc k) _ _ both y)
+
+positive_small : (o : Ordering) (x : Amount) → IsSmall x → IsSmall (larger_of o x zero_amount)
+positive_small Less x s = ((omega (arith, ints), omega (arith, ints)), (omega (arith, ints), omega (arith, ints)))
+positive_small Equal x s = s
+positive_small Greater x s = s
+
+minus_bounded : (x y : Amount) → IsSmall x → IsSmall y → Bounded 1 (minus x y)
+minus_bounded x y a b = ((omega (arith, ints, a, b), omega (arith, ints, a, b)), (omega (arith, ints, a, b), omega (arith, ints, a, b)))
+
+set_fits : (ws : List Amount) (e : ℕ → Bool) → length ws ≤ MOST_BLOCKS → AreSmall ws → SetFits ws e
+set_fits ws e few s k l t =
+    let sum = sum_bounded (λ b. where_so (e b) (amount_at ws b)) k (λ b i. where_bounded (e b) (amount_at ws b) (small_bounded (amount_at ws b) (s b (omega (arith, i, l))))) in
+    fits (suc k) _ (omega (arith, few, l)) (plus_bounded k _ (amount_at ws k) sum (small_bounded (amount_at ws k) (s k l)))
+
+room_fits : (ws ss : List Amount) (n : ℕ) → length ws ≡ n → length ss ≡ n → n ≤ MOST_BLOCKS → AreSmall ws → AreSmall ss → (k : ℕ) → k < n → ResidualFits ws ss k
+room_fits ws ss n a b few s r k l =
+    let left : (j : ℕ) → j < n → Bounded 1 (residual_at ws ss j) = λ j i. minus_bounded (positive (amount_at ws j)) (amount_at ss j) (positive_small (amount_cmp (amount_at ws j) zero_amount) (amount_at ws j) (s j (omega (arith, i, a)))) (r j (omega (arith, i, b))) in
+    let sum = sum_bounded (residual_at ws ss) k (λ j i. left j (omega (arith, i, l))) in
+    (fits 1 (residual_at ws ss k) (omega arith) (left k l), fits (suc k) _ (omega (arith, few, l)) (plus_bounded k _ (residual_at ws ss k) sum (left k l)))
+
+-- every sum of the check fits
+pub sums_fit : (net : NetView) (flow : FlowView) (pit : List ℕ) → IsNet net → length flow.source ≡ length net.worths → length flow.rest ≡ length net.pairs → length flow.sink ≡ length net.worths → IsSmallFlow net flow → SumsFit net flow pit
+sums_fit net flow pit is_net a b c s =
+    let blocks = is_net.rests.blocks in
+    let few = is_net.rests.few in
+    record {
+      balances = λ x l. (
+        ends_fit (amount_at flow.source x) (to_at net.pairs) (amount_at flow.rest) x (length net.pairs) few (s.source x (omega (arith, l, a))) (λ k i. s.rest k (omega (arith, i, b))),
+        ends_fit (amount_at flow.sink x) (from_at net.pairs) (amount_at flow.rest) x (length net.pairs) few (s.sink x (omega (arith, l, c))) (λ k i. s.rest k (omega (arith, i, b))),
+      );
+      set = set_fits net.worths (holds_of pit) blocks s.worths;
+      room = room_fits net.worths flow.source (length net.worths) refl a blocks s.worths s.source;
+    }

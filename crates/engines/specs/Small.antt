@@ -1,0 +1,23 @@
+-- Amounts of few digits, of which no sum that a check makes leaves its numbers.
+use Rattle.std.specs.Prelude.{ℕ, ℤ, pos, neg_ℤ, ◌≤ℤ◌, ◌<ℤ◌, ◌<◌, ◌^◌, List, length}
+use Rattle.ordered_group.specs.Prelude.{Amount, amount_at}
+use Rattle.closure_net.specs.Network.{NetView, FlowView}
+
+-- the number lies between -2^96 and 2^96
+abbrev pub IsSmallNumber : ℤ → Type 0
+IsSmallNumber z = (neg_ℤ (pos (2 ^ 96)) ≤ℤ z) × (z ≤ℤ pos (2 ^ 96))
+
+-- both numbers of the amount do
+abbrev pub IsSmall : Amount → Type 0
+IsSmall x = IsSmallNumber x.w × IsSmallNumber x.c
+
+-- each amount of a list is small
+abbrev pub AreSmall : List Amount → Type 0
+AreSmall xs = (k : ℕ) → k < length xs → IsSmall (amount_at xs k)
+
+-- what each block is worth, and what each arc carries, is small
+pub record IsSmallFlow (net : NetView) (flow : FlowView) : Type 0 where
+  pub worths : AreSmall net.worths
+  pub source : AreSmall flow.source
+  pub rest : AreSmall flow.rest
+  pub sink : AreSmall flow.sink

@@ -1,0 +1,208 @@
+//! Solves a mine whose blocks rest on one another by their places, without a list of the pairs: what a search finds is spelled
+//! as a certificate, and only a text that the check of `check` accepts is an answer.
+
+ghost use Rattle.std.specs.Prelude.{◌≡◌, ◌<◌, ◌≤◌, All, IsTrue, length, map, IfSome};
+ghost use Rattle.fixed_worth.specs.declared.limits.TheConstants.{MOST_BLOCKS};
+ghost use Rattle.closure_net.specs.Network.{FlowFits, net_view};
+ghost use Rattle.certificate_file.specs.ReadBack.{IsPrice, IsReadBack};
+ghost use Rattle.closure_net.specs.Mine.{IsNetOf};
+ghost use Rattle.mine_inputs.specs.Mines.{MineTexts, DenoteMine, mine_of, price_wanted};
+ghost use Rattle.mine_inputs.specs.ReadMines.{AreRead};
+ghost use Rattle.engines.specs.Readings.{IsGroupNamed};
+ghost use Rattle.engines.specs.Small.{IsSmallFlow};
+ghost use Rattle.engines.specs.Placed.{IsAcceptedText, IsDueCertificate};
+
+use crate::certificate_judge::{header_for, size_and_worth};
+use crate::small_amounts::is_small_flow;
+use crate::stored_run::StoredText;
+use check_pit::{
+    CertStream, Certificate, Header, HeldGraph, Price, Room, StreamBytes, check_held,
+    write_certificate,
+};
+use closure_net::{Net, Pit};
+use fixed_worth::Counted;
+use grid_flow::grow_by_places;
+use held_pairs::HeldPairs;
+use ordered_group::{Group, OrderedGroup};
+use places::{Grid, HeldRef};
+use prec_file::{ListedPairs, MOST_PAIRS, Rests};
+use pseudoflow::{Branch, Grown, Progress, flow_of_forest, pairs_of};
+use std::alloc::Global;
+
+/// A certificate that a check has accepted.
+#[derive(Drop)]
+pub(crate) struct PlacedCertificate {
+    /// Its text.
+    pub(crate) text: Vec<u8>,
+    /// The number of the pit's blocks.
+    pub(crate) count: u32,
+    /// What they are worth, in billionths.
+    pub(crate) worth: i128,
+}
+
+// A net with the pairs alone over which something flows, and a certificate for it that nobody has judged.
+#[derive(Drop)]
+struct Draft<G: OrderedGroup> {
+    net: Net<G>,
+    certificate: Certificate<G>,
+}
+
+// The blocks of a pit, of which each of n blocks says whether it is in it.
+fn pit_by(alloc: Global, flags: &[bool], n: u32) -> Option<Pit>
+    ensures { IfSome result (λ pit. All (λ b. b < n) pit) }
+{
+    let mut blocks: Vec<u32> = Vec::new(alloc);
+    for b in 0..n {
+        if let Some(true) = flags.get(b as usize) {
+            blocks.push(b).ok()?;
+        }
+    }
+    Pit::new(blocks)
+}
+
+// The pairs over which something flows in a forest, of n blocks.
+fn few_rests(alloc: Global, branches: &[Branch], n: u32) -> Option<Rests>
+    requires { n ≤ MOST_BLOCKS }
+    ensures { IfSome result (λ r. r.blocks ≡ n) }
+{
+    let pairs = pairs_of(alloc, branches, n).ok()?;
+    if pairs.len() > MOST_PAIRS as usize {
+        return None;
+    }
+    ListedPairs::of(n, pairs).into_rests(alloc).ok()
+}
+
+// What a search over places finds.
+fn draft_of<G: OrderedGroup, P: Progress>(
+    alloc: Global,
+    grid: &Grid,
+    nanos: &[i128],
+    price: Price,
+    turns: u64,
+    progress: &P,
+) -> Option<Draft<G>>
+    requires few { length nanos.now ≤ MOST_BLOCKS }
+    ensures worths { IfSome result (λ d. d.net.worths
+        ≡ map (λ v. G.block_parts v (length nanos.now)) nanos.now) }
+    ensures flow { IfSome result (λ d. FlowFits d.net d.certificate.flow) }
+    ensures blocks { IfSome result (λ d. d.certificate.blocks ≡ length d.net.worths) }
+    ensures price { IfSome result (λ d. d.certificate.price ≡ price) }
+    ensures pit { IfSome result (λ d. All (λ b. b < length d.net.worths) d.certificate.pit) }
+{
+    let n = nanos.len() as u32;
+    let Grown { branches, pit } = grow_by_places(alloc, grid, nanos, turns, progress).ok()?;
+    let rests = few_rests(alloc, &branches, n)?;
+    let net = Net::<G>::of_worths(alloc, rests, nanos).ok()?;
+    let flow = flow_of_forest(alloc, &net, &branches).ok()?;
+    drop(branches);
+    let blocks = net.len();
+    let pit = pit_by(alloc, &pit, blocks)?;
+    Some(Draft {
+        net,
+        certificate: Certificate {
+            blocks,
+            price,
+            pit,
+            flow,
+        },
+    })
+}
+
+// The text of a certificate, where its amounts are small.
+fn spelled<G: OrderedGroup>(alloc: Global, draft: &Draft<G>) -> Option<Vec<u8>>
+    requires price { IsPrice draft.now.certificate.price }
+    requires flow { FlowFits draft.now.net draft.now.certificate.flow }
+    requires blocks { draft.now.certificate.blocks ≡ length draft.now.net.worths }
+    requires pit { All (λ b. b < length draft.now.net.worths) draft.now.certificate.pit }
+    ensures text { IfSome result (λ text. IsReadBack G.counts G.name
+        (length draft.now.net.worths) draft.now.net.pairs text.items
+        draft.now.certificate.price draft.now.certificate.pit draft.now.certificate.flow) }
+    ensures small { IfSome result
+        (λ _. IsSmallFlow draft.now.net draft.now.certificate.flow) }
+{
+    if !is_small_flow(&draft.net, &draft.certificate.flow) {
+        return None;
+    }
+    let mut out = Counted::new(Vec::<u8>::new(alloc));
+    match write_certificate(&draft.certificate, draft.net.rests(), &mut out) {
+        Ok(()) => Some(out.into_inner()),
+        Err(_) => None,
+    }
+}
+
+// Whether a header says this price and this group.
+fn is_expected(header: Header, price: Price, group: Group) -> bool
+    ensures { IsTrue result → (header.price ≡ price) × (header.group ≡ group) }
+{
+    header.price == price && header.group == group
+}
+
+// The number of the blocks of the pit of a certificate and their worth, where a check accepts its text for what the blocks of
+// a net are worth and for pairs that are held apart from it.
+fn accepted_text<G: OrderedGroup>(
+    alloc: Global,
+    net: &Net<G>,
+    pairs: &HeldPairs,
+    price: Price,
+    text: &[u8],
+) -> Option<(u32, i128)>
+    requires { pairs.now.blocks ≡ length net.now.worths }
+    ensures { IfSome result (λ _. (texts : MineTexts) → price ≡ price_wanted texts
+        → IsGroupNamed G.name G.block_parts G.counts
+        → DenoteMine texts (length net.now.worths)
+        → IsNetOf G.block_parts (mine_of (length net.now.worths) texts)
+        (net_view pairs.now.pairs net.now.worths)
+        → IsAcceptedText texts G.counts G.name
+        (net_view pairs.now.pairs net.now.worths) text.now) }
+{
+    let device = StoredText { left: text };
+    let Ok(held) = StreamBytes::new(alloc) else {
+        return None;
+    };
+    let mut stream = CertStream::over(held, device);
+    let Ok(header) = header_for(&mut stream, net.len()) else {
+        return None;
+    };
+    if !is_expected(header, price, G::group()) {
+        return None;
+    }
+    let graph = HeldGraph::with_pairs(net.graph(), pairs);
+    // proof: what is known of every net, that its pairs are of its blocks and in order
+    let _worths = graph.worths();
+    let mut room = Room::of_blocks(alloc, graph.len()).ok()?;
+    match check_held(&mut stream, graph, &mut room) {
+        Ok(accepted) => Some(size_and_worth(&accepted)),
+        Err(_) => None,
+    }
+}
+
+/// The certificate of a mine whose pairs places hold: none where a list holds them, where the search gives up, or where the
+/// check doesn't accept what it found.
+pub(crate) fn placed_certificate<G: OrderedGroup, P: Progress>(
+    alloc: Global,
+    pairs: &HeldPairs,
+    nanos: &[i128],
+    price: Price,
+    turns: u64,
+    progress: &P,
+) -> Option<PlacedCertificate>
+    requires { IsPrice price }
+    ensures { IfSome result (λ found. (texts : MineTexts)
+        → AreRead texts nanos.now pairs.now → price ≡ price_wanted texts
+        → IsGroupNamed G.name G.block_parts G.counts
+        → IsDueCertificate texts G.name found.text.items) }
+{
+    let grid = match pairs.as_ref() {
+        HeldRef::Placed(grid) => grid,
+        HeldRef::Listed(_) => return None,
+    };
+    // proof: there are few blocks
+    let blocks = pairs.len();
+    if nanos.len() != blocks as usize {
+        return None;
+    }
+    let draft = draft_of::<G, P>(alloc, grid, nanos, price, turns, progress)?;
+    let text = spelled(alloc, &draft)?;
+    let (count, worth) = accepted_text(alloc, &draft.net, pairs, price, &text)?;
+    Some(PlacedCertificate { text, count, worth })
+}
