@@ -129,10 +129,7 @@ def written(plan, folder):
     values = "".join("%d %s\n" % (b, decimal(worth, 6)) for b, worth in enumerate(plan.worths))
     (folder / "m.upit").write_text("NBLOCKS: %d\nOBJECTIVE_FUNCTION:\n%s" % (BLOCKS, values))
     (folder / "m.blocks").write_text(
-        "".join(
-            "%d 0 0 %d %s\n" % (b, b, " ".join(cells_of(plan, b)))
-            for b in range(BLOCKS)
-        )
+        "".join("%d 0 0 %d %s\n" % (b, b, " ".join(cells_of(plan, b))) for b in range(BLOCKS))
     )
     (folder / "p.toml").write_text(
         "weights = %s\nresources = %s\ncapacities = %s\n"
