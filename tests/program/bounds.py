@@ -2,8 +2,9 @@
 built program against an enumeration, which shares no line with it and counts in whole numbers by docs/FORMATS.md alone.
 
 Mines are those of schedules.py, five blocks and three periods, half of them with prices at a factor. Each of the 4^5 ways to
-give every block a period or none is looked at. The greatest worth above the multipliers of those that keep precedence, and all
-capacities at their multipliers, is the bound that must come; and what each feasible one is worth may not exceed it. A schedule of schedules.py is held against the bound too.
+give every block a period or none is looked at. The greatest worth above the multipliers of those that keep precedence and waits, and all
+capacities at their multipliers, is the bound that must come; and what each feasible one is worth may not exceed it. A schedule of
+schedules.py is held against the bound too. In half of the mines blocks wait for others.
 """
 import os
 import random
@@ -26,7 +27,7 @@ from program.schedules import (
 
 VALUES = "--prec m.prec --upit m.upit --uses m.blocks --periods p.toml".split()
 PRICES = "--prec m.prec --blocks m.blocks --settings s.toml --periods p.toml".split()
-SETTINGS = "revenue = %d\ncost = %d\n" % (RESOURCES, RESOURCES + 1)
+SETTINGS = "revenue = %d\ncost = %d\n"
 DUG_OR_NOT = list(product(range(PERIODS + 1), repeat=BLOCKS))  # PERIODS where a block isn't dug
 
 
@@ -38,7 +39,7 @@ def multipliers_of(chance):
     ]
 
 
-def with_prices(folder, chance):
+def with_prices(plan, folder, chance):
     """Gives blocks revenues and costs, and answers the factor and what each is worth at it, in billionths."""
     factor = chance.randrange(2001)
     prices = [
@@ -51,7 +52,8 @@ def with_prices(folder, chance):
             for line, (revenue, cost) in zip(lines, prices)
         )
     )
-    (folder / "s.toml").write_text(SETTINGS)
+    column = len(plan.uses) + len(plan.waits)
+    (folder / "s.toml").write_text(SETTINGS % (column, column + 1))
     return factor, [revenue * factor - cost * 1000 for revenue, cost in prices]
 
 
@@ -67,7 +69,14 @@ def bound_of(plan, worths, multipliers):
         for b in range(BLOCKS)
     ]
     keeping = [
-        periods for periods in DUG_OR_NOT if all(periods[p] <= periods[b] for b, p in plan.pairs)
+        periods
+        for periods in DUG_OR_NOT
+        if all(periods[p] <= periods[b] for b, p in plan.pairs)
+        and all(
+            a == b or periods[b] == PERIODS or periods[a] + plan.lag <= periods[b]
+            for column in plan.waits
+            for b, a in enumerate(column)
+        )
     ]
     richest = max(sum(left[b][t] for b, t in enumerate(periods)) for periods in keeping)
     had = [
@@ -126,7 +135,7 @@ def wrong_in(program, seed, folder):
     factor, worths = 0, [1000 * worth for worth in plan.worths]
     files, at = VALUES, []
     if seed % 2:
-        factor, worths = with_prices(folder, chance)
+        factor, worths = with_prices(plan, folder, chance)
         files, at = PRICES, ["--factor", str(factor)]
     bound, best = bound_of(plan, worths, multipliers)
     if best > bound:

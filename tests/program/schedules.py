@@ -1,8 +1,8 @@
 """Judges schedules of mines that are made up: `pit schedule` of the built program against this reader, which shares no line with
 it and counts in whole numbers by docs/FORMATS.md alone.
 
-Mines have five blocks and three periods, two resources and capacities that bind; schedules are made up too, most of them nearly
-in order, so that feasible ones and each kind of infeasible one come.
+Mines have five blocks and three periods, two resources and capacities that bind; in half of them blocks wait for others. Schedules
+are made up too, most of them nearly in order, so that feasible ones and each kind of infeasible one come.
 """
 import os
 import random
@@ -16,9 +16,9 @@ from program.refused_calls import run
 BLOCKS, PERIODS, RESOURCES = 5, 3, 2
 WORDS = "schedule --prec m.prec --upit m.upit --uses m.blocks --periods p.toml s.txt".split()
 
-# Worths in millionths, pairs, weights in millionths, uses in millionths by resource, capacities in whole units by resource, and the period of
-# each block that is dug.
-Plan = namedtuple("Plan", "worths pairs weights uses capacities periods")
+# Worths in millionths, pairs, weights in millionths, uses in millionths by resource, capacities in whole units by resource, the period of
+# each block that is dug, and how long blocks wait for others: columns of the blocks for which they do, a block's own number where for none.
+Plan = namedtuple("Plan", "worths pairs weights uses capacities periods lag waits")
 
 
 def decimal(number, places):
@@ -58,7 +58,18 @@ def made_up(seed):
         uses,
         capacities,
         periods,
+        *waiting(seed),
     )
+
+
+def waiting(seed):
+    """How many periods blocks wait, and for which: no column in every other plan."""
+    chance = random.Random("waits %d" % seed)
+    columns = [
+        [chance.choice((b, b, b, chance.randrange(BLOCKS))) for b in range(BLOCKS)]
+        for _ in range(seed % 4 - 1)
+    ]
+    return chance.choice((1, 1, 2)), columns
 
 
 def npv_of(plan, worths):
@@ -86,15 +97,27 @@ def judged(plan, worths):
         for t in range(PERIODS)
         if used[r][t] > plan.capacities[r][t] * 10**6
     ]
+    early = sorted(
+        {
+            (b, a)
+            for column in plan.waits
+            for b, a in enumerate(column)
+            if a != b
+            and b in plan.periods
+            and plan.periods.get(a, PERIODS) + plan.lag > plan.periods[b]
+        }
+    )
     lines = [
         "SCHEDULE %d %s" % (len(plan.periods), decimal(npv_of(plan, worths), 15)),
         "BROKEN %d" % len(broken),
     ]
     lines += ["BREAKS %d %d" % pair for pair in broken]
+    lines += ["EARLY %d" % len(early)] if early else []
+    lines += ["WAITS %d %d" % pair for pair in early]
     lines += [
         "OVER %d %d %s %d" % (r, t, decimal(used[r][t], 6), plan.capacities[r][t]) for r, t in over
     ]
-    return 1 if broken or over else 0, "\n".join(lines) + "\n"
+    return 1 if broken or early or over else 0, "\n".join(lines) + "\n"
 
 
 def written(plan, folder):
@@ -106,18 +129,29 @@ def written(plan, folder):
     values = "".join("%d %s\n" % (b, decimal(worth, 6)) for b, worth in enumerate(plan.worths))
     (folder / "m.upit").write_text("NBLOCKS: %d\nOBJECTIVE_FUNCTION:\n%s" % (BLOCKS, values))
     (folder / "m.blocks").write_text(
-        "".join(
-            "%d 0 0 %d %s\n" % (b, b, " ".join(decimal(row[b], 6) for row in plan.uses))
-            for b in range(BLOCKS)
-        )
+        "".join("%d 0 0 %d %s\n" % (b, b, " ".join(cells_of(plan, b))) for b in range(BLOCKS))
     )
     (folder / "p.toml").write_text(
         "weights = %s\nresources = %s\ncapacities = %s\n"
         % (plan.weights, list(range(RESOURCES)), plan.capacities)
+        + keys_of_waiting(plan)
     )
     (folder / "s.txt").write_text(
         "".join("%d %d\n" % (b, t) for b, t in sorted(plan.periods.items(), reverse=True))
     )
+
+
+def cells_of(plan, b):
+    """What stands in the columns beside a block: its uses, and for which blocks it waits."""
+    return [decimal(row[b], 6) for row in plan.uses] + [str(column[b]) for column in plan.waits]
+
+
+def keys_of_waiting(plan):
+    """The keys of periods that say for which blocks others wait, and how long; a lag of one may be left out."""
+    first = len(plan.uses)
+    columns = list(range(first, first + len(plan.waits)))
+    waits = "waits = %s\n" % columns if columns else ""
+    return waits + ("lag = %d\n" % plan.lag if plan.lag > 1 or len(columns) > 1 else "")
 
 
 def wrong(program, seed):

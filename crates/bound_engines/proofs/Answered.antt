@@ -45,10 +45,10 @@ module _ {D : Type 0} (inputs : MineInputs D) (beside : BoundInputs D) (remainin
       whatever inputs beside remaining (factor_in c) (λ texts p u. Bounds texts p u w w (Err e)) (λ texts p u. nothing_written texts p u w e))
 
   module _ (worths : Worths) (rests : RestsView) (n : ℕ) (size : n ≡ rests.blocks) (r : BesideRead) (h : (k : ℕ) → ForTexts inputs remaining k (λ texts. IsMineRead texts k worths rests)) (b : ForBeside beside remaining (λ p u. IsBesideRead n r p u)) where
-    pub answered : (t : Told) → IfSome o (λ c. (texts : MineTexts) (p u : List ℕ) → IsMineRead texts (factor_in c) worths rests → ReadsPeriodsText p (periods_view r.periods) → ReadsUses rests.blocks r.periods.resources.items u r.uses.items → IsToldOf texts p u t)
+    pub answered : (t : Told) → IfSome o (λ c. (texts : MineTexts) (p u : List ℕ) → IsMineRead texts (factor_in c) worths rests → ReadsPeriodsText p (periods_view r.periods) → ReadsUses rests.blocks r.periods.resources.items r.periods.waits.items u r.uses.items r.waits → IsToldOf texts p u t)
         → (old new : Option (List ℕ)) (verdict : Verdict) → verdict ≡ verdict_told t → Appends old new (told_line t) → Answers (λ texts p u. Bounds texts p u old new (Ok verdict))
     answered t j old new verdict e a =
-        let J : List ℕ → Type 0 = λ c. (texts : MineTexts) (p u : List ℕ) → IsMineRead texts (factor_in c) worths rests → ReadsPeriodsText p (periods_view r.periods) → ReadsUses rests.blocks r.periods.resources.items u r.uses.items → IsToldOf texts p u t in
+        let J : List ℕ → Type 0 = λ c. (texts : MineTexts) (p u : List ℕ) → IsMineRead texts (factor_in c) worths rests → ReadsPeriodsText p (periods_view r.periods) → ReadsUses rests.blocks r.periods.resources.items r.periods.waits.items u r.uses.items r.waits → IsToldOf texts p u t in
         under o J (λ c. ForAll inputs beside remaining (factor_in c) (λ texts p u. Bounds texts p u old new (Ok verdict))) j (λ c tells.
         of_read inputs beside remaining (factor_in c) (λ texts p u. Bounds texts p u old new (Ok verdict)) worths rests n size r h b (λ texts p u m pr ur.
         told_written texts p u old new t verdict e (tells texts p u m pr ur) a))

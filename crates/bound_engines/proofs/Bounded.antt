@@ -1,9 +1,9 @@
 -- A bound by figures that were read is one by the texts.
-use Rattle.fixed_worth.proofs.Common.{◌≡◌, ℕ, ◌+◌, ◌*◌, ◌/◌, ◌%◌, ◌<◌, ℤ, pos, ◌+ℤ◌, ◌-ℤ◌, ◌*ℤ◌, ◌≤ℤ◌, Bool, cond, ◌&&◌, ◌||◌, ◌==◌, nat_lt, List, length, map, slice_index, slice_index_or, Option, Some, None, Result, Ok, Err, IfOk, IfSome, refl, sym, ap, ap₂, subst, ◌∙◌, arith, IsTrue, length-map, get_or-map}
-use Rattle.std.proofs.lemmas.Nat.{mod_below, div_below}
+use Rattle.fixed_worth.proofs.Common.{◌≡◌, ℕ, ◌+◌, ◌*◌, ◌/◌, ◌%◌, ◌<◌, ℤ, pos, ◌+ℤ◌, ◌-ℤ◌, ◌*ℤ◌, ◌≤ℤ◌, Bool, cond, ◌&&◌, ◌||◌, ◌==◌, nat_lt, List, length, map, slice_index, Option, Some, None, Result, Ok, Err, IfOk, IfSome, refl, sym, ap, ap₂, subst, ◌∙◌, arith, length-map, get_or-map}
+use Rattle.std.proofs.lemmas.Nat.{mod_below}
 use Rattle.ordered_group.specs.Prelude.{Amount, zero_amount, worth_block, worth_told}
-use Rattle.prec_file.specs.Rests.{RestsView, has_pair}
-use Rattle.closure_net.specs.Prelude.{NetView, holds_of, IsGreatest, IsNet, IsNetOf, IsRichest, group_worth, net_view, worth_of}
+use Rattle.prec_file.specs.Rests.{RestsView}
+use Rattle.closure_net.specs.Prelude.{Mine, NetView, holds_of, IsGreatest, IsNet, IsNetOf, IsRichest, group_worth, net_view, worth_of}
 use Rattle.closure_net.proofs.NetSums.{greatest_is_richest, sum_of_set}
 use Rattle.certificate_file.specs.declared.header.Header.{Header}
 use Rattle.certificate_file.specs.Prelude.{header_of, pieces_of}
@@ -11,12 +11,12 @@ use Rattle.check_pit.specs.Prelude.{LineView}
 use Rattle.engines.specs.Prelude.{StandsBehind, factor_in, factor_named}
 use Rattle.mine_inputs.specs.Prelude.{AreRead, MineTexts, factor_at, rests_of}
 use Rattle.periods_file.specs.Periods.{PeriodsView}
-use Rattle.schedules.specs.Prelude.{Production, charge, expanded, npv_of, price_of_capacities, reduced, rests_by_period}
+use Rattle.schedules.specs.Prelude.{Production, charge, npv_of, price_of_capacities, reduced}
 use Rattle.schedules.proofs.Sums.{sum-same}
 use Rattle.schedules.proofs.Layers.{some_blocks}
-use Rattle.schedules.proofs.Duality.{no_schedule_is_worth_more}
 use Rattle.production_figures.specs.Figures.{FiguresView, figures_view, production_of, uses_by}
-use Rattle.expanded_mine.specs.Prelude.{AreNodePairs, AreNodeWorths, IsBound, node_worth, price_by}
+use Rattle.expanded_mine.specs.Prelude.{AreNodePairs, AreNodeWorths, is_early, node_rests, node_worth, price_by, rests_by_wait, waiting_mine, withheld}
+use Rattle.expanded_mine.proofs.Waiting.{the_waiting_pit_bounds}
 use Rattle.schedule_engines.specs.Prelude.{ReadsPeriodsText, ReadsUses, plan_of}
 use Rattle.schedule_engines.proofs.Scheduled.{rests_same}
 use Rattle.bound_engines.specs.Prelude.{DenotePlan, IsBounded, IsExpanded, IsJudgedOf, IsPlanNet, IsRefusal, IsToldFor, IsToldOf, node_net, priced_by}
@@ -26,8 +26,8 @@ use Rattle.bound_engines.specs.declared.bound_fault.BoundFault.{BoundFault}
 use Rattle.bound_engines.specs.declared.bound_judge.Told.{Told}
 use Rattle.bound_engines.specs.declared.bound_judge.Told.TheVariants as told
 
-module _ (texts : MineTexts) (periods uses : List ℕ) (nanos : List ℤ) (rests : RestsView) (said : PeriodsView) (used prices : List ℕ)
-    (a : AreRead texts nanos rests) (pr : ReadsPeriodsText periods said) (ur : ReadsUses rests.blocks said.resources uses used) where
+module _ (texts : MineTexts) (periods uses : List ℕ) (nanos : List ℤ) (rests : RestsView) (said : PeriodsView) (used prices : List ℕ) (lags : RestsView)
+    (a : AreRead texts nanos rests) (pr : ReadsPeriodsText periods said) (ur : ReadsUses rests.blocks said.resources said.waits uses used lags) where
   abbrev figures : FiguresView
   figures = figures_view nanos said.weights (length said.resources) used said.capacities
 
@@ -39,6 +39,9 @@ module _ (texts : MineTexts) (periods uses : List ℕ) (nanos : List ℤ) (rests
 
   abbrev price : ℕ → ℕ → ℕ
   price = priced_by said prices
+
+  abbrev mine_of_nodes : Mine
+  mine_of_nodes = waiting_mine by_texts price said.lag lags.pairs
 
   -- ---- a block in a period
 
@@ -56,19 +59,20 @@ module _ (texts : MineTexts) (periods uses : List ℕ) (nanos : List ℤ) (rests
 
   -- ---- a node
 
-  worth_same : (i : ℕ) → i < length said.weights * rests.blocks → node_worth figures prices (i % length nanos) (i / length nanos) ≡ (expanded by_texts price).worth i
+  worth_same : (i : ℕ) → i < length said.weights * rests.blocks → node_worth figures prices (i % length nanos) (i / length nanos) -ℤ withheld (is_early (length nanos) said.lag lags.pairs i) ≡ mine_of_nodes.worth i
   worth_same i l =
       let low : i % rests.blocks < rests.blocks = mod_below i rests.blocks (some_blocks rests.blocks (length said.weights) i l) in
-      ap (λ (n : ℕ). node_worth figures prices (i % n) (i / n)) a.worths.size ∙ block_same (i % rests.blocks) (i / rests.blocks) low
+      ap (λ (n : ℕ). node_worth figures prices (i % n) (i / n) -ℤ withheld (is_early n said.lag lags.pairs i)) a.worths.size
+      ∙ ap (λ (z : ℤ). z -ℤ withheld (is_early rests.blocks said.lag lags.pairs i)) (block_same (i % rests.blocks) (i / rests.blocks) low)
 
-  pair_same : (i j : ℕ) → rests_by_period rests.blocks (length said.weights) (has_pair rests.pairs) i j ≡ (expanded by_texts price).rests i j
+  pair_same : (i j : ℕ) → node_rests rests.blocks (length said.weights) said.lag lags.pairs rests.pairs i j ≡ mine_of_nodes.rests i j
   pair_same i j =
       let n = rests.blocks in
-      ap (λ (x : Bool). nat_lt j (length said.weights * n) && ((i / n == j / n && x) || j == i + n)) (sym (rests_same (rests_of texts) rests.pairs a.pairs (i % n) (j % n)))
+      ap (λ (x : Bool). (nat_lt j (length said.weights * n) && ((i / n == j / n && x) || j == i + n)) || rests_by_wait n (length said.weights) said.lag lags.pairs i j) (sym (rests_same (rests_of texts) rests.pairs a.pairs (i % n) (j % n)))
 
   -- the net of the nodes is that of the expanded mine of the texts
-  net_same : (pairs : RestsView) (worths : List ℤ) (m : ℕ) → AreNodePairs rests.blocks (length said.weights) rests.pairs pairs.pairs → AreNodeWorths figures prices worths
-      → IsNetOf worth_block (expanded by_texts price) (net_view pairs.pairs (map (λ v. worth_block v m) worths))
+  net_same : (pairs : RestsView) (worths : List ℤ) (m : ℕ) → AreNodePairs rests.blocks (length said.weights) said.lag lags.pairs rests.pairs pairs.pairs → AreNodeWorths figures prices said.lag lags.pairs worths
+      → IsNetOf worth_block mine_of_nodes (net_view pairs.pairs (map (λ v. worth_block v m) worths))
   net_same pairs worths m p w =
       let size : length worths ≡ length said.weights * rests.blocks = w.size ∙ ap (λ (n : ℕ). length said.weights * n) a.worths.size in
       record {
@@ -93,23 +97,25 @@ module _ (texts : MineTexts) (periods uses : List ℕ) (nanos : List ℤ) (rests
     uses_within = ur.within;
     uses_read = ur.read;
     uses_count = ur.count;
+    waits = lags;
+    waiting = ur.waiting;
   }
 
-  pub net_of_plan : (f : FiguresView) (pairs : RestsView) (worths : List ℤ) → IsExpanded nanos rests said used f prices pairs worths → IsNet (node_net pairs worths) → IsPlanNet texts periods uses (node_net pairs worths)
+  pub net_of_plan : (f : FiguresView) (pairs : RestsView) (worths : List ℤ) → IsExpanded nanos rests said used lags f prices pairs worths → IsNet (node_net pairs worths) → IsPlanNet texts periods uses (node_net pairs worths)
   net_of_plan f pairs worths x is = record {
     denotes = denotes x.prices;
     is_net = is;
-    of_nodes = net_same pairs worths pairs.blocks x.pairs (subst (λ (g : FiguresView). AreNodeWorths g prices worths) x.figures x.worths);
+    of_nodes = net_same pairs worths pairs.blocks x.pairs (subst (λ (g : FiguresView). AreNodeWorths g prices said.lag lags.pairs worths) x.figures x.worths);
   }
 
   -- ---- the bound
 
   -- what a greatest set of the nodes' net is worth, with all capacities at their prices, is a bound
-  pub bounded : (f : FiguresView) (pairs : RestsView) (worths : List ℤ) → IsExpanded nanos rests said used f prices pairs worths → (ps : List ℕ) → ps ≡ prices → (xs : List ℤ) → xs ≡ worths
+  pub bounded : (f : FiguresView) (pairs : RestsView) (worths : List ℤ) → IsExpanded nanos rests said used lags f prices pairs worths → (ps : List ℕ) → ps ≡ prices → (xs : List ℤ) → xs ≡ worths
       → (worth bound : ℤ) → IsJudgedOf pairs xs (nodes.Richest worth) → bound ≡ worth +ℤ price_of_capacities (production_of rests.pairs f) (price_by f ps) → IsBounded texts periods uses bound
   bounded f pairs worths x ps same xs listed worth bound j sum =
-      let mine = expanded by_texts price in
-      let w : AreNodeWorths figures prices worths = subst (λ (g : FiguresView). AreNodeWorths g prices worths) x.figures x.worths in
+      let mine = mine_of_nodes in
+      let w : AreNodeWorths figures prices said.lag lags.pairs worths = subst (λ (g : FiguresView). AreNodeWorths g prices said.lag lags.pairs worths) x.figures x.worths in
       let of = net_same pairs worths pairs.blocks x.pairs w in
       let P : List ℤ → Type 0 = λ vs. IsGreatest (net_view pairs.pairs (map (λ v. worth_block v pairs.blocks) vs)) j.0 in
       let Q : List ℤ → Type 0 = λ vs. worth ≡ (group_worth (map (λ v. worth_block v pairs.blocks) vs) j.0).w in
@@ -124,19 +130,19 @@ module _ (texts : MineTexts) (periods uses : List ℕ) (nanos : List ℤ) (rests
         best = j.0;
         richest = rich;
         exact = exact;
-        holds = λ schedule feasible. subst (λ (z : ℤ). npv_of by_texts schedule ≤ℤ z) (sym exact) (no_schedule_is_worth_more by_texts price j.0 schedule rich feasible);
+        holds = λ schedule feasible later. subst (λ (z : ℤ). npv_of by_texts schedule ≤ℤ z) (sym exact) (the_waiting_pit_bounds by_texts price said.lag lags.pairs j.0 rich schedule feasible later);
       }
 
   -- and it is one of this mine and these periods
-  pub bounded_for : (f : FiguresView) (pairs : RestsView) (worths : List ℤ) → IsExpanded nanos rests said used f prices pairs worths → (ps : List ℕ) → ps ≡ prices → (xs : List ℤ) → xs ≡ worths
-      → (worth bound : ℤ) → IsJudgedOf pairs xs (nodes.Richest worth) → bound ≡ worth +ℤ price_of_capacities (production_of rests.pairs f) (price_by f ps) → IsToldFor texts periods uses rests.blocks said (told.Bound bound)
+  pub bounded_for : (f : FiguresView) (pairs : RestsView) (worths : List ℤ) → IsExpanded nanos rests said used lags f prices pairs worths → (ps : List ℕ) → ps ≡ prices → (xs : List ℤ) → xs ≡ worths
+      → (worth bound : ℤ) → IsJudgedOf pairs xs (nodes.Richest worth) → bound ≡ worth +ℤ price_of_capacities (production_of rests.pairs f) (price_by f ps) → IsToldFor texts periods uses rests.blocks said lags (told.Bound bound)
   unfolding bounded
-  bounded_for f pairs worths x ps same xs listed worth bound j sum = (bounded f pairs worths x ps same xs listed worth bound j sum, refl, refl)
+  bounded_for f pairs worths x ps same xs listed worth bound j sum = (bounded f pairs worths x ps same xs listed worth bound j sum, refl, refl, refl)
 
-pub told_of : (texts : MineTexts) (periods uses : List ℕ) (n : ℕ) (said : PeriodsView) (r : Result Told BoundFault) → IfOk r (IsToldFor texts periods uses n said) → IfOk r (IsToldOf texts periods uses)
-told_of texts periods uses n said (Ok (told.Bound bound)) h = h.0
-told_of texts periods uses n said (Ok (told.Refused fault)) h = tt
-told_of texts periods uses n said (Err fault) h = tt
+pub told_of : (texts : MineTexts) (periods uses : List ℕ) (n : ℕ) (said : PeriodsView) (lags : RestsView) (r : Result Told BoundFault) → IfOk r (IsToldFor texts periods uses n said lags) → IfOk r (IsToldOf texts periods uses)
+told_of texts periods uses n said lags (Ok (told.Bound bound)) h = h.0
+told_of texts periods uses n said lags (Ok (told.Refused fault)) h = tt
+told_of texts periods uses n said lags (Err fault) h = tt
 
 -- where nothing is proved nothing is told
 pub refusal_told : (pairs : RestsView) (worths : List ℤ) (j : NodesJudged) → IsRefusal j → IsJudgedOf pairs worths j

@@ -14,12 +14,10 @@ use Rattle.engines.specs.Prelude.{AnswersNet, IsCertificateOf, SolvesNet}
 use Rattle.mine_inputs.specs.declared.engine_fault.EngineFault.{EngineFault}
 use Rattle.mine_inputs.specs.declared.engine_fault.EngineFault.TheVariants as engine
 use Rattle.mine_inputs.specs.Prelude.{MineTexts, price_wanted}
-use Rattle.schedules.specs.Prelude.{expanded}
 use Rattle.schedule_engines.specs.declared.schedule_fault.PlanFault.TheVariants as plan
-use Rattle.schedule_engines.specs.Prelude.{plan_of}
 use Rattle.bound_engines.specs.declared.bound_fault.BoundFault.{BoundFault}
 use Rattle.bound_engines.specs.declared.bound_fault.BoundFault.TheVariants as bound
-use Rattle.bound_engines.specs.Prelude.{AnswersPlan, IsPlanCertificate, IsPlanNet, SolvesNodes, SolvesPlan, node_net, priced_by}
+use Rattle.bound_engines.specs.Prelude.{AnswersPlan, IsPlanCertificate, IsPlanNet, SolvesNodes, SolvesPlan, node_net, nodes_mine}
 use Rattle.bound_engines.proofs.Answered.{keeps_self}
 
 -- ---- the net of nodes
@@ -40,7 +38,7 @@ module _ (price : Price) (pairs : RestsView) (worths : List ℤ) (method : Metho
 module _ (texts : MineTexts) (periods uses : List ℕ) (method : Method) (limit : ℕ) where
   certificate_is : (net : NetView) → IsPlanNet texts periods uses net → (text : List ℕ) → IsCertificateOf false Worth (price_wanted texts) net text → IsPlanCertificate texts periods uses text
   certificate_is net by text c =
-      let mine = expanded (plan_of texts by.denotes.count by.denotes.said uses) (priced_by by.denotes.said by.denotes.prices) in
+      let mine = nodes_mine texts periods uses by.denotes in
       let greatest = (duality net c.flow (holds_of c.pit) by.is_net.rests c.sound.proves.is_flow c.sound.proves.closed c.sound.proves.tight).greatest_set in
       record {
         net = net;

@@ -24,9 +24,9 @@ module _ {D : Type 0} (inputs : MineInputs D) (beside : BoundInputs D) (remainin
 
   -- what holds of the texts of what was read
   pub of_read : (worths : Worths) (rests : RestsView) (n : ℕ) → n ≡ rests.blocks → (r : BesideRead) → ((k : ℕ) → ForTexts inputs remaining k (λ texts. IsMineRead texts k worths rests)) → ForBeside beside remaining (λ p u. IsBesideRead n r p u)
-      → ((texts : MineTexts) (p u : List ℕ) → IsMineRead texts factor worths rests → ReadsPeriodsText p (periods_view r.periods) → ReadsUses rests.blocks r.periods.resources.items u r.uses.items → Q texts p u) → ForAll
+      → ((texts : MineTexts) (p u : List ℕ) → IsMineRead texts factor worths rests → ReadsPeriodsText p (periods_view r.periods) → ReadsUses rests.blocks r.periods.resources.items r.periods.waits.items u r.uses.items r.waits → Q texts p u) → ForAll
   of_read worths rests n size r h b f =
       under (remaining beside.periods) (λ p. IfSome (remaining beside.uses) (λ u. IsBesideRead n r p u)) (λ p. IfSome (remaining beside.uses) (λ u. ForTexts inputs remaining factor (λ texts. Q texts p u))) b (λ p q.
       under (remaining beside.uses) (λ u. IsBesideRead n r p u) (λ u. ForTexts inputs remaining factor (λ texts. Q texts p u)) q (λ u k.
       for_texts inputs remaining factor (λ texts. IsMineRead texts factor worths rests) (λ texts. Q texts p u) (h factor) (λ texts m.
-      f texts p u m k.0 (subst (λ (s : ℕ). ReadsUses s r.periods.resources.items u r.uses.items) size k.1))))
+      f texts p u m k.0 (subst (λ (s : ℕ). ReadsUses s r.periods.resources.items r.periods.waits.items u r.uses.items r.waits) size k.1))))

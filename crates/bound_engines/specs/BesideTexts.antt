@@ -19,4 +19,4 @@ beside_failures beside failed = failed beside.periods + failed beside.uses
 
 -- what was read of the texts, for n blocks
 abbrev pub IsBesideRead : ℕ → BesideRead → List ℕ → List ℕ → Type 0
-IsBesideRead n r periods uses = ReadsPeriodsText periods (periods_view r.periods) × ReadsUses n r.periods.resources.items uses r.uses.items
+IsBesideRead n r periods uses = ReadsPeriodsText periods (periods_view r.periods) × ReadsUses n r.periods.resources.items r.periods.waits.items uses r.uses.items r.waits

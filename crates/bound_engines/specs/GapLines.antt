@@ -25,7 +25,7 @@ gap_line g = codes "GAP " ++ (amount_text 15 g ++ 10 ∷ [])
 
 -- how far a schedule is below a bound, where it is feasible; of another nothing is told
 abbrev pub gap_text : JudgedView → ℤ → List ℕ
-gap_text v bound = cond (is_clear v.broken v.over) (gap_line (bound -ℤ v.npv)) []
+gap_text v bound = cond (is_clear v.broken v.early v.over) (gap_line (bound -ℤ v.npv)) []
 
 -- the lines of a schedule, of the bound and of the gap; or the line of a certificate that is refused
 abbrev pub compared_text : JudgedView → Told → List ℕ
@@ -34,7 +34,7 @@ compared_text v (told.Refused fault) = judgement_line (Refused fault)
 
 -- how the engine ends with it
 abbrev pub compared_verdict : JudgedView → Told → Verdict
-compared_verdict v (told.Bound bound) = cond (is_clear v.broken v.over) Done No
+compared_verdict v (told.Bound bound) = cond (is_clear v.broken v.early v.over) Done No
 compared_verdict v (told.Refused fault) = No
 
 -- The schedule comes to this, the bound holds, and both were written; and the gap behind them where the schedule is feasible.
@@ -42,7 +42,7 @@ pub record WritesBelow (texts : MineTexts) (periods uses text : List ℕ) (feasi
   pub v : JudgedView
   pub bound : ℤ
   pub is : IsBelow texts periods uses text v bound
-  pub clear : is_clear v.broken v.over ≡ feasible
+  pub clear : is_clear v.broken v.early v.over ≡ feasible
   pub written : Appends old new (schedule_text v ++ (bound_line bound ++ cond feasible (gap_line (bound -ℤ v.npv)) []))
 
 -- the texts denote a schedule, and the certificate proves no bound: its line alone was written

@@ -6,5 +6,5 @@ use Rattle.bound_engines.specs.declared.compared_inputs.ComparedRead.{ComparedRe
 
 -- what was read of them, for n blocks
 abbrev pub IsComparedRead : ℕ → ComparedRead → List ℕ → List ℕ → List ℕ → Type 0
-IsComparedRead n r periods uses schedule = ReadsPeriodsText periods (periods_view r.beside.periods) × ReadsUses n r.beside.periods.resources.items uses r.beside.uses.items
+IsComparedRead n r periods uses schedule = ReadsPeriodsText periods (periods_view r.beside.periods) × ReadsUses n r.beside.periods.resources.items r.beside.periods.waits.items uses r.beside.uses.items r.beside.waits
     × ReadsScheduleText n (length r.beside.periods.weights.items) schedule r.schedule.items

@@ -14,7 +14,8 @@ pub record IsBelow (texts : MineTexts) (periods uses text : List ℕ) (v : Judge
   pub bounded : IsBounded texts periods uses bound
   pub same_blocks : bounded.denotes.count ≡ scheduled.count
   pub same_periods : bounded.denotes.said ≡ scheduled.said
-  pub below : (v.broken ≡ 0) × (v.over ≡ []) → v.npv ≤ℤ bound
+  pub same_waits : bounded.denotes.waits ≡ scheduled.waits
+  pub below : (v.broken ≡ 0) × (v.early ≡ 0) × (v.over ≡ []) → v.npv ≤ℤ bound
 
 -- a bound is one of the texts, as the schedule is; of a certificate that proves no pit nothing is said
 abbrev pub IsCompared : MineTexts → List ℕ → List ℕ → List ℕ → JudgedView → Told → Type 0

@@ -1,11 +1,11 @@
 -- What `solve` over periods answers and writes: a certificate of the expanded mine, or a line that says why there is none.
-use Rattle.std.specs.Prelude.{◌≡◌, ◌⊎◌, ℕ, ℤ, Bool, false, List, map, Option, Result, Ok, Err}
+use Rattle.std.specs.Prelude.{◌⊎◌, ℕ, ℤ, false, List, Option, Result, Ok, Err}
 use Rattle.std.specs.Io.KnownBytes.{Appends, Keeps}
 use Rattle.fixed_worth.specs.Device.{ReceivedPrefix}
 use Rattle.ordered_group.specs.Prelude.{worth_block}
 use Rattle.ordered_group.specs.declared.groups.Group.TheVariants.{Worth}
 use Rattle.prec_file.specs.Rests.{RestsView}
-use Rattle.closure_net.specs.Prelude.{NetView, IsNet, IsNetOf, IsRichest, holds_of, net_view}
+use Rattle.closure_net.specs.Prelude.{NetView, IsNet, IsNetOf, IsRichest, holds_of}
 use Rattle.certificate_file.specs.declared.header.Price.{Price}
 use Rattle.engines.specs.declared.judgement.Verdict.{Verdict}
 use Rattle.engines.specs.declared.judgement.Verdict.TheVariants.{Done, No}
@@ -13,12 +13,10 @@ use Rattle.engines.specs.declared.method.Method.{Method}
 use Rattle.engines.specs.Prelude.{IsCertificateOf, IsDueFor, IsNoOf, SolvesNet}
 use Rattle.mine_inputs.specs.declared.engine_fault.EngineFault.TheVariants as engine
 use Rattle.mine_inputs.specs.Prelude.{MineTexts, price_wanted}
-use Rattle.schedules.specs.Prelude.{expanded}
 use Rattle.schedule_engines.specs.declared.schedule_fault.PlanFault.TheVariants as plan
-use Rattle.schedule_engines.specs.Prelude.{plan_of}
 use Rattle.bound_engines.specs.declared.bound_fault.BoundFault.{BoundFault}
 use Rattle.bound_engines.specs.declared.bound_fault.BoundFault.TheVariants as bound
-use Rattle.bound_engines.specs.Bounded.{DenotePlan, node_net, priced_by}
+use Rattle.bound_engines.specs.Bounded.{DenotePlan, node_net, nodes_mine}
 
 -- ---- nodes
 
@@ -34,7 +32,7 @@ SolvesNodes price pairs worths method limit old new (Err fault) = Keeps old new
 pub record IsPlanNet (texts : MineTexts) (periods uses : List ℕ) (net : NetView) : Type 0 where
   pub denotes : DenotePlan texts periods uses
   pub is_net : IsNet net
-  pub of_nodes : IsNetOf worth_block (expanded (plan_of texts denotes.count denotes.said uses) (priced_by denotes.said denotes.prices)) net
+  pub of_nodes : IsNetOf worth_block (nodes_mine texts periods uses denotes) net
 
 -- The text is a certificate of the expanded mine: that of a pit and a flow of its net, at the mine's price, in which the flow proves the
 -- pit; and no pit of the expanded mine is worth more.
@@ -42,7 +40,7 @@ pub record IsPlanCertificate (texts : MineTexts) (periods uses text : List ℕ) 
   pub net : NetView
   pub by : IsPlanNet texts periods uses net
   pub certificate : IsCertificateOf false Worth (price_wanted texts) net text
-  pub richest : IsRichest (expanded (plan_of texts by.denotes.count by.denotes.said uses) (priced_by by.denotes.said by.denotes.prices)) (holds_of certificate.pit)
+  pub richest : IsRichest (nodes_mine texts periods uses by.denotes) (holds_of certificate.pit)
 
 -- the text that answers for them
 abbrev pub AnswersPlan : MineTexts → List ℕ → List ℕ → Method → ℕ → Verdict → List ℕ → Type 0

@@ -9,6 +9,7 @@ ghost use Rattle.bound_engines.specs.BesideTexts.{BesideCanCount, ForBeside, IsB
 
 use fixed_worth::{CountedRead, MOST_BLOCKS};
 use periods_file::{PeriodKey, Periods, PeriodsFault};
+use prec_file::Predecessors;
 use schedule_engines::{PeriodsProblem, PlanFault, periods_from, uses_from};
 use std::alloc::Global;
 
@@ -28,6 +29,8 @@ pub(crate) struct BesideRead {
     pub periods: Periods,
     /// What blocks use, row by row for each resource.
     pub uses: Vec<u64>,
+    /// The pairs of a block and one for which it waits.
+    pub waits: Predecessors,
 }
 
 // What a text says of periods. Of periods without multipliers no bound is asked.
@@ -38,6 +41,7 @@ pub(crate) fn priced_periods_from<D: CountedRead>(
     requires { D.failed from.old < 2 ^ 64 - 1 }
     ensures read { IfSome (D.remaining from.old) (λ text. IfOk result (λ p. ReadsPeriodsText text (periods_view p))) }
     ensures few { IfOk result (λ p. (length p.weights.items ≤ 1000) × (length p.resources.items ≤ 8)) }
+    ensures waits { IfOk result (λ p. (length p.waits.items ≤ 8) × (p.lag ≤ 1000)) }
     ensures device { IsErrOf result (plan.Engine engine.Device)
         → D.failed from.new ≡ D.failed from.old + 1 }
     ensures kept { ¬ IsErrOf result (plan.Engine engine.Device)
@@ -74,10 +78,15 @@ pub(crate) fn beside_from<D: CountedRead>(
         Ok(periods) => periods,
         Err(fault) => return Err(fault),
     };
-    let columns = periods.resources.as_slice();
-    let uses = match uses_from(alloc, &mut beside.uses, columns, n) {
-        Ok(uses) => uses,
+    let resources = periods.resources.as_slice();
+    let columns = periods.waits.as_slice();
+    let found = match uses_from(alloc, &mut beside.uses, resources, columns, n) {
+        Ok(found) => found,
         Err(fault) => return Err(fault),
     };
-    Ok(BesideRead { periods, uses })
+    Ok(BesideRead {
+        periods,
+        uses: found.amounts,
+        waits: found.waits,
+    })
 }

@@ -65,12 +65,12 @@ pub(crate) fn told_by<C: CountedRead>(
     requires count { C.failed stream.old.lines.from < 2 ^ 64 - 1 }
     requires open { IsUndecided stream.old }
     requires header { IsReadFor expanded.pairs.blocks group.Worth stream.old.header stream.old.fault }
-    ensures told { (texts : MineTexts) (p u : List ℕ) (nanos : List ℤ) (rests : RestsView) (said : PeriodsView) (used : List ℕ)
+    ensures told { (texts : MineTexts) (p u : List ℕ) (nanos : List ℤ) (rests : RestsView) (said : PeriodsView) (used : List ℕ) (lags : RestsView)
         → AreRead texts nanos rests
         → ReadsPeriodsText p said
-        → ReadsUses rests.blocks said.resources u used
-        → IsExpanded nanos rests said used expanded.figures expanded.prices.items expanded.pairs expanded.worths.items
-        → IfOk result (IsToldFor texts p u rests.blocks said) }
+        → ReadsUses rests.blocks said.resources said.waits u used lags
+        → IsExpanded nanos rests said used lags expanded.figures expanded.prices.items expanded.pairs expanded.worths.items
+        → IfOk result (IsToldFor texts p u rests.blocks said lags) }
     ensures device { IsErrOf result (bound.Plan (plan.Engine engine.Device))
         → C.failed stream.new.lines.from ≡ C.failed stream.old.lines.from + 1 }
     ensures kept { ¬ IsErrOf result (bound.Plan (plan.Engine engine.Device))
@@ -105,7 +105,7 @@ fn bound_behind<C: CountedRead>(
     ensures told { (texts : MineTexts) (p u : List ℕ)
         → AreRead texts planned.nanos.items planned.predecessors
         → ReadsPeriodsText p (periods_view planned.periods)
-        → ReadsUses planned.predecessors.blocks planned.periods.resources.items u planned.uses.items
+        → ReadsUses planned.predecessors.blocks planned.periods.resources.items planned.periods.waits.items u planned.uses.items planned.waits
         → IfOk result (IsToldOf texts p u) }
     ensures device { IsErrOf result (bound.Plan (plan.Engine engine.Device))
         → C.failed stream.new.lines.from ≡ C.failed stream.old.lines.from + 1 }
@@ -134,7 +134,8 @@ pub(crate) fn planned_from<R: Threads + Sync, C: CountedRead>(
         → IsMineRead texts (factor_in c) mine.worths mine.predecessors
         → IfOk result (λ q. AreRead texts q.nanos.items mine.predecessors)) }
     ensures beside { IfOk result (λ q. (q.predecessors ≡ mine.predecessors)
-        × (periods_view q.periods ≡ periods_view beside.periods) × (q.uses.items ≡ beside.uses.items)) }
+        × (periods_view q.periods ≡ periods_view beside.periods) × (q.uses.items ≡ beside.uses.items)
+        × (q.waits ≡ beside.waits)) }
     ensures header { IfOk result (λ q. IsReadFor (length q.periods.weights.items * q.predecessors.blocks)
         group.Worth stream.new.header stream.new.fault) }
     ensures open { IfOk result (λ _. IsUndecided stream.new) }
@@ -147,7 +148,11 @@ pub(crate) fn planned_from<R: Threads + Sync, C: CountedRead>(
         worths,
         predecessors,
     } = mine;
-    let BesideRead { periods, uses } = beside;
+    let BesideRead {
+        periods,
+        uses,
+        waits,
+    } = beside;
     let nodes = match nodes_of(predecessors.len(), periods.weights.as_slice().len()) {
         Ok(nodes) => nodes,
         Err(fault) => return Err(fault),
@@ -164,6 +169,7 @@ pub(crate) fn planned_from<R: Threads + Sync, C: CountedRead>(
         predecessors,
         periods,
         uses,
+        waits,
     })
 }
 
@@ -182,7 +188,7 @@ fn bound_from<R: Threads + Sync, C: CountedRead>(
     ensures told { IfSome (C.remaining stream.old.lines.from) (λ c. (texts : MineTexts) (p u : List ℕ)
         → IsMineRead texts (factor_in c) mine.worths mine.predecessors
         → ReadsPeriodsText p (periods_view beside.periods)
-        → ReadsUses mine.predecessors.blocks beside.periods.resources.items u beside.uses.items
+        → ReadsUses mine.predecessors.blocks beside.periods.resources.items beside.periods.waits.items u beside.uses.items beside.waits
         → IfOk result (IsToldOf texts p u)) }
     ensures device { IsErrOf result (bound.Plan (plan.Engine engine.Device))
         → C.failed stream.new.lines.from ≡ C.failed stream.old.lines.from + 1 }
@@ -211,7 +217,7 @@ pub(crate) fn judge_bound<R: Threads + Sync, C: CountedRead>(
     ensures told { IfSome (C.remaining device) (λ c. (texts : MineTexts) (p u : List ℕ)
         → IsMineRead texts (factor_in c) case.entry.mine.worths case.entry.mine.predecessors
         → ReadsPeriodsText p (periods_view case.entry.beside.periods)
-        → ReadsUses case.entry.mine.predecessors.blocks case.entry.beside.periods.resources.items u case.entry.beside.uses.items
+        → ReadsUses case.entry.mine.predecessors.blocks case.entry.beside.periods.resources.items case.entry.beside.periods.waits.items u case.entry.beside.uses.items case.entry.beside.waits
         → IfOk result.1 (IsToldOf texts p u)) }
     ensures device { IsErrOf result.1 (bound.Plan (plan.Engine engine.Device))
         → C.failed result.0 ≡ C.failed device + 1 }

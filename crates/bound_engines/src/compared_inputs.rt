@@ -31,6 +31,7 @@ pub(crate) fn plan_priced_from<D: CountedRead>(
     ensures read { ForPlan beside.old D.remaining (λ p u s. IfOk result (λ r. IsComparedRead n r p u s)) }
     ensures few { IfOk result (λ r. length r.beside.periods.resources.items ≤ 8) }
     ensures each { IfOk result (λ r. length r.schedule.items ≡ n) }
+    ensures waits { IfOk result (λ r. r.beside.waits.blocks ≡ n) }
     ensures device { IsErrOf result (plan.Engine engine.Device)
         → plan_failures beside.new D.failed ≡ plan_failures beside.old D.failed + 1 }
     ensures kept { ¬ IsErrOf result (plan.Engine engine.Device)
@@ -40,9 +41,10 @@ pub(crate) fn plan_priced_from<D: CountedRead>(
         Ok(periods) => periods,
         Err(fault) => return Err(fault),
     };
-    let columns = periods.resources.as_slice();
-    let uses = match uses_from(alloc, &mut beside.uses, columns, n) {
-        Ok(uses) => uses,
+    let resources = periods.resources.as_slice();
+    let columns = periods.waits.as_slice();
+    let found = match uses_from(alloc, &mut beside.uses, resources, columns, n) {
+        Ok(found) => found,
         Err(fault) => return Err(fault),
     };
     let count = periods.weights.as_slice().len() as u32;
@@ -50,8 +52,10 @@ pub(crate) fn plan_priced_from<D: CountedRead>(
         Ok(schedule) => schedule,
         Err(fault) => return Err(fault),
     };
-    Ok(ComparedRead {
-        beside: BesideRead { periods, uses },
-        schedule,
-    })
+    let beside = BesideRead {
+        periods,
+        uses: found.amounts,
+        waits: found.waits,
+    };
+    Ok(ComparedRead { beside, schedule })
 }

@@ -53,6 +53,7 @@ fn compared_behind<C: CountedRead>(
 ) -> Result<Compared, BoundFault>
     requires few { length planned.periods.resources.items ≤ 8 }
     requires each { length schedule.now ≡ planned.predecessors.blocks }
+    requires waits { planned.waits.blocks ≡ planned.predecessors.blocks }
     requires count { C.failed stream.old.lines.from < 2 ^ 64 - 1 }
     requires open { IsUndecided stream.old }
     requires header { IsReadFor (length planned.periods.weights.items * planned.predecessors.blocks)
@@ -60,7 +61,7 @@ fn compared_behind<C: CountedRead>(
     ensures told { (texts : MineTexts) (p u s : List ℕ)
         → AreRead texts planned.nanos.items planned.predecessors
         → ReadsPeriodsText p (periods_view planned.periods)
-        → ReadsUses planned.predecessors.blocks planned.periods.resources.items u planned.uses.items
+        → ReadsUses planned.predecessors.blocks planned.periods.resources.items planned.periods.waits.items u planned.uses.items planned.waits
         → ReadsScheduleText planned.predecessors.blocks (length planned.periods.weights.items) s schedule.now
         → IfOk result (λ x. IsCompared texts p u s (judged_view x.judged) x.told) }
     ensures device { IsErrOf result (bound.Plan (plan.Engine engine.Device))
@@ -75,7 +76,9 @@ fn compared_behind<C: CountedRead>(
     // proof: the pairs of a mine are of its blocks
     let _blocks = expanded.predecessors.len();
     let base = &expanded.predecessors;
-    let Ok(judged) = judge_schedule(alloc, base, &expanded.figures, schedule) else {
+    let waits = &expanded.waits;
+    let figures = &expanded.figures;
+    let Ok(judged) = judge_schedule(alloc, base, figures, schedule, &waits.pairs, waits.lag) else {
         return Err(BoundFault::Plan(PlanFault::Engine(EngineFault::Memory)));
     };
     match told_by(alloc, expanded, stream) {
@@ -94,13 +97,14 @@ fn compared_from<R: Threads + Sync, C: CountedRead>(
 ) -> Result<Compared, BoundFault>
     requires few { length read.beside.periods.resources.items ≤ 8 }
     requires each { length read.schedule.items ≡ mine.predecessors.blocks }
+    requires waits { read.beside.waits.blocks ≡ mine.predecessors.blocks }
     requires count { C.failed stream.old.lines.from < 2 ^ 64 - 1 }
     requires fresh { IsFresh stream.old }
     requires sync { IsSync R.row }
     ensures told { IfSome (C.remaining stream.old.lines.from) (λ c. (texts : MineTexts) (p u s : List ℕ)
         → IsMineRead texts (factor_in c) mine.worths mine.predecessors
         → ReadsPeriodsText p (periods_view read.beside.periods)
-        → ReadsUses mine.predecessors.blocks read.beside.periods.resources.items u read.beside.uses.items
+        → ReadsUses mine.predecessors.blocks read.beside.periods.resources.items read.beside.periods.waits.items u read.beside.uses.items read.beside.waits
         → ReadsScheduleText mine.predecessors.blocks (length read.beside.periods.weights.items) s read.schedule.items
         → IfOk result (λ x. IsCompared texts p u s (judged_view x.judged) x.told)) }
     ensures device { IsErrOf result (bound.Plan (plan.Engine engine.Device))
@@ -127,12 +131,13 @@ pub(crate) fn judge_compared<R: Threads + Sync, C: CountedRead>(
 ) -> (C, Result<Compared, BoundFault>)
     requires few { length case.read.beside.periods.resources.items ≤ 8 }
     requires each { length case.read.schedule.items ≡ case.mine.predecessors.blocks }
+    requires waits { case.read.beside.waits.blocks ≡ case.mine.predecessors.blocks }
     requires count { C.failed device < 2 ^ 64 - 1 }
     requires sync { IsSync R.row }
     ensures told { IfSome (C.remaining device) (λ c. (texts : MineTexts) (p u s : List ℕ)
         → IsMineRead texts (factor_in c) case.entry.mine.worths case.entry.mine.predecessors
         → ReadsPeriodsText p (periods_view case.entry.read.beside.periods)
-        → ReadsUses case.entry.mine.predecessors.blocks case.entry.read.beside.periods.resources.items u case.entry.read.beside.uses.items
+        → ReadsUses case.entry.mine.predecessors.blocks case.entry.read.beside.periods.resources.items case.entry.read.beside.periods.waits.items u case.entry.read.beside.uses.items case.entry.read.beside.waits
         → ReadsScheduleText case.entry.mine.predecessors.blocks (length case.entry.read.beside.periods.weights.items) s case.entry.read.schedule.items
         → IfOk result.1 (λ x. IsCompared texts p u s (judged_view x.judged) x.told)) }
     ensures device { IsErrOf result.1 (bound.Plan (plan.Engine engine.Device))

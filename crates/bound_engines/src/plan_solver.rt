@@ -122,7 +122,7 @@ pub(crate) fn solve_plan<R: Threads + Wait + Sync, T: Gate + Progress + Outcome,
     ensures answer { (texts : MineTexts) (p u : List ℕ)
         → IsMineRead texts asked.factor mine.worths mine.predecessors
         → ReadsPeriodsText p (periods_view beside.periods)
-        → ReadsUses mine.predecessors.blocks beside.periods.resources.items u beside.uses.items
+        → ReadsUses mine.predecessors.blocks beside.periods.resources.items beside.periods.waits.items u beside.uses.items beside.waits
         → SolvesPlan texts p u asked.effort.method asked.effort.steps
         (W.contents out.old) (W.contents out.new) result }
     ensures device { IsErrOf result (bound.Plan (plan.Engine engine.Device))
@@ -134,7 +134,11 @@ pub(crate) fn solve_plan<R: Threads + Wait + Sync, T: Gate + Progress + Outcome,
         worths,
         predecessors,
     } = mine;
-    let BesideRead { periods, uses } = beside;
+    let BesideRead {
+        periods,
+        uses,
+        waits,
+    } = beside;
     let price = worths.price_at(asked.factor);
     let Ok(nanos) = worths.nanos_at(rt, alloc, asked.factor) else {
         return Err(BoundFault::Plan(PlanFault::Engine(EngineFault::Memory)));
@@ -144,6 +148,7 @@ pub(crate) fn solve_plan<R: Threads + Wait + Sync, T: Gate + Progress + Outcome,
         predecessors,
         periods,
         uses,
+        waits,
     };
     match expanded_of(alloc, planned) {
         Ok(nodes) => solve_nodes(rt, alloc, nodes, price, asked.effort, gate, out),

@@ -9,7 +9,7 @@ ghost use Rattle.bound_engines.specs.Bounded.{IsExpanded};
 
 use crate::bound_fault::{BoundFault, of_expansion};
 use closure_net::NetFault;
-use expanded_mine::{node_predecessors, node_worths_of};
+use expanded_mine::{Waits, node_predecessors, node_worths_of};
 use mine_inputs::EngineFault;
 use periods_file::{PeriodKey, Periods, PeriodsFault};
 use prec_file::Predecessors;
@@ -28,6 +28,8 @@ pub(crate) struct Planned {
     pub periods: Periods,
     /// What blocks use, row by row for each resource.
     pub uses: Vec<u64>,
+    /// The pairs of a block and one for which it waits.
+    pub waits: Predecessors,
 }
 
 /// The nodes of a mine and its periods, and the figures that they are made of.
@@ -39,6 +41,8 @@ pub(crate) struct Expanded {
     pub prices: Vec<u64>,
     /// The predecessors of each block.
     pub predecessors: Predecessors,
+    /// Which blocks wait for which, and how long.
+    pub waits: Waits,
     /// The predecessors of each node.
     pub pairs: Predecessors,
     /// What each node is worth.
@@ -49,8 +53,9 @@ pub(crate) struct Expanded {
 pub(crate) fn expanded_of(alloc: Global, planned: Planned) -> Result<Expanded, BoundFault>
     requires { length planned.periods.resources.items ≤ 8 }
     ensures is { IfOk result (λ x. IsExpanded planned.nanos.items planned.predecessors (periods_view planned.periods)
-        planned.uses.items x.figures x.prices.items x.pairs x.worths.items) }
+        planned.uses.items planned.waits x.figures x.prices.items x.pairs x.worths.items) }
     ensures base { IfOk result (λ x. x.predecessors ≡ planned.predecessors) }
+    ensures waits { IfOk result (λ x. (x.waits.pairs ≡ planned.waits) × (x.waits.lag ≡ planned.periods.lag)) }
     ensures no_device { ¬ IsErrOf result (bound.Plan (plan.Engine engine.Device)) }
 {
     let Planned {
@@ -58,9 +63,10 @@ pub(crate) fn expanded_of(alloc: Global, planned: Planned) -> Result<Expanded, B
         predecessors,
         periods,
         uses,
+        waits,
     } = planned;
-    // the texts of a mine give as many worths as blocks
-    if nanos.len() != predecessors.len() as usize {
+    // the texts of a mine give as many worths as blocks, and its uses are of as many
+    if nanos.len() != predecessors.len() as usize || waits.len() != predecessors.len() {
         let fault = EngineFault::Model(NetFault::WrongLength);
         return Err(BoundFault::Plan(PlanFault::Engine(fault)));
     }
@@ -69,6 +75,8 @@ pub(crate) fn expanded_of(alloc: Global, planned: Planned) -> Result<Expanded, B
         resources,
         capacities,
         multipliers,
+        waits: _columns,
+        lag,
     } = periods;
     let Some(prices) = multipliers else {
         let fault = PeriodsFault::Missing(PeriodKey::Multipliers);
@@ -78,11 +86,12 @@ pub(crate) fn expanded_of(alloc: Global, planned: Planned) -> Result<Expanded, B
     let Some(figures) = Figures::new(nanos, weights, count, uses, capacities) else {
         return Err(BoundFault::Plan(PlanFault::Periods(PeriodsProblem::TooLarge)));
     };
-    let pairs = match node_predecessors(alloc, &predecessors, figures.periods()) {
+    let waits = Waits { pairs: waits, lag };
+    let pairs = match node_predecessors(alloc, &predecessors, &waits, figures.periods()) {
         Ok(pairs) => pairs,
         Err(fault) => return Err(of_expansion(fault)),
     };
-    let worths = match node_worths_of(alloc, &figures, prices.as_slice()) {
+    let worths = match node_worths_of(alloc, &figures, prices.as_slice(), &waits) {
         Ok(worths) => worths,
         Err(fault) => return Err(of_expansion(fault)),
     };
@@ -90,6 +99,7 @@ pub(crate) fn expanded_of(alloc: Global, planned: Planned) -> Result<Expanded, B
         figures,
         prices,
         predecessors,
+        waits,
         pairs,
         worths,
     })

@@ -1,19 +1,19 @@
--- The pairs of a node, and of all nodes before one.
-use Rattle.fixed_worth.proofs.Common.{◌≡◌, ◌≢◌, ℕ, ◌+◌, ◌*◌, ◌/◌, ◌%◌, ◌<◌, ◌≤◌, Bool, true, false, cond, ◌&&◌, ◌||◌, ◌==◌, nat_lt, IsTrue, All, List, [], ◌∷◌, ◌++◌, length, get_or, map, inl, inr, refl, sym, ap, subst, ◌∙◌, arith, ℤ, pos, length-append, get_or_append_left, get_or_push, Contains, Contains-append_left, Contains-append_right, Contains-append_cases, Contains-push_cases, append-nil, length-map, get_or-map, get_or_default, and_parts, and_from, or_cases, or_left, or_right, cases_lt, eq-eqb, eqb-true, ltb-true, lt-ltb, div-mul-add, div-add-mod'}
+-- The pairs of a node in its own period and with the next one.
+use Rattle.fixed_worth.proofs.Common.{◌≡◌, ◌≢◌, ℕ, ◌+◌, ◌*◌, ◌/◌, ◌%◌, ◌<◌, Bool, true, false, cond, ◌&&◌, ◌||◌, ◌==◌, nat_lt, IsTrue, List, [], ◌∷◌, ◌++◌, length, get_or, map, inl, inr, refl, sym, ap, subst, ◌∙◌, arith, ℤ, pos, length-append, get_or_append_left, get_or_push, Contains, Contains-append_left, Contains-append_right, Contains-push_cases, append-nil, length-map, get_or-map, get_or_default, and_parts, and_from, or_cases, or_left, or_right, cases_lt, eq-eqb, eqb-true, ltb-true, lt-ltb, div-mul-add, div-add-mod'}
 use Rattle.std.proofs.lemmas.Nat.{mod-mul-add, mod_below, div_below, mul-add-lt}
-use Rattle.prec_file.specs.Rests.{above_of, from_at, to_at, first_of, numbers, has_pair, IsRests, RestsView, RowsView, IsRowAdded, IsOfBlock, IsKnown}
+use Rattle.prec_file.specs.Rests.{above_of, from_at, to_at, first_of, numbers, has_pair, IsRests, RestsView, IsKnown}
 use Rattle.prec_file.proofs.Finding.{above_at, above_has}
 use Rattle.prec_file.proofs.Pairs.{rests_of_pair, pair_of_rests}
 use Rattle.schedules.specs.Prelude.{rests_by_period}
 use Rattle.schedules.proofs.Layers.{some_blocks}
-use Rattle.expanded_mine.specs.Nodes.{row_of, AreNodePairs, AreNodesBelow}
+use Rattle.expanded_mine.specs.Nodes.{row_of}
 
 -- ---- lists
 
-in_map : (f : ℕ → ℕ × ℕ) (xs : List ℕ) (k : ℕ) → k < length xs → Contains (map f xs) (f (get_or xs k 0))
+pub in_map : (f : ℕ → ℕ × ℕ) (xs : List ℕ) (k : ℕ) → k < length xs → Contains (map f xs) (f (get_or xs k 0))
 in_map f xs k l = (k, omega (arith, l, length-map xs f), get_or-map f xs k 0 (f (get_or xs k 0)) l)
 
-of_map : (f : ℕ → ℕ × ℕ) (xs : List ℕ) (q : ℕ × ℕ) → Contains (map f xs) q → (k : ℕ) × (k < length xs) × (f (get_or xs k 0) ≡ q)
+pub of_map : (f : ℕ → ℕ × ℕ) (xs : List ℕ) (q : ℕ × ℕ) → Contains (map f xs) q → (k : ℕ) × (k < length xs) × (f (get_or xs k 0) ≡ q)
 of_map f xs q c =
     let l : c.0 < length xs = omega (arith, c.1, length-map xs f) in
     (c.0, l, sym (get_or-map f xs c.0 0 q l) ∙ c.2)
@@ -41,7 +41,7 @@ module _ (v : RestsView) (h : IsRests v) (periods : ℕ) (i : ℕ) (known : i < 
       let P : ℕ × ℕ → Type 0 = λ q. IsKnown v.blocks q in
       (subst P c.2 x).1
 
-  row_held : (j : ℕ) → IsTrue (rests_by_period v.blocks periods (has_pair v.pairs) i j) → Contains (row_of v.blocks periods v.pairs i) (i, j)
+  pub row_held : (j : ℕ) → IsTrue (rests_by_period v.blocks periods (has_pair v.pairs) i j) → Contains (row_of v.blocks periods v.pairs i) (i, j)
   row_held j t =
       let n = v.blocks in
       let f : ℕ → ℕ × ℕ = λ a. (i, i / n * n + a) in
@@ -73,11 +73,11 @@ module _ (v : RestsView) (h : IsRests v) (periods : ℕ) (i : ℕ) (known : i < 
       ]
 
   -- what is known of a pair of the row
-  record IsRowPair (q : ℕ × ℕ) : Type 0 where
-    own : q.0 ≡ i
-    apart : q.0 ≢ q.1
-    rests : IsTrue (rests_by_period v.blocks periods (has_pair v.pairs) i q.1)
-    inside : q.1 < periods * v.blocks
+  pub record IsRowPair (q : ℕ × ℕ) : Type 0 where
+    pub own : q.0 ≡ i
+    pub apart : q.0 ≢ q.1
+    pub rests : IsTrue (rests_by_period v.blocks periods (has_pair v.pairs) i q.1)
+    pub inside : q.1 < periods * v.blocks
 
   -- the node of block a in the same period
   abbrev beside : ℕ → ℕ × ℕ
@@ -124,7 +124,7 @@ module _ (v : RestsView) (h : IsRests v) (periods : ℕ) (i : ℕ) (known : i < 
         inside = below;
       }
 
-  row_only : (q : ℕ × ℕ) → Contains (row_of v.blocks periods v.pairs i) q → IsRowPair q
+  pub row_only : (q : ℕ × ℕ) → Contains (row_of v.blocks periods v.pairs i) q → IsRowPair q
   row_only q c = by_test (nat_lt (i + v.blocks) (periods * v.blocks)) refl c
     where
       by_test : (t : Bool) → nat_lt (i + v.blocks) (periods * v.blocks) ≡ t → Contains (map beside (above_of v.pairs (i % v.blocks)) ++ cond t ((i, i + v.blocks) ∷ []) []) q → IsRowPair q
@@ -136,48 +136,12 @@ module _ (v : RestsView) (h : IsRests v) (periods : ℕ) (i : ℕ) (known : i < 
           let P : List (ℕ × ℕ) → Type 0 = λ xs. Contains xs q in
           above_only q (subst P (append-nil (map beside (above_of v.pairs (i % v.blocks)))) d)
 
-  -- the row is of the node, and of known nodes
-  pub row_own : All (IsOfBlock (periods * v.blocks) i) (row_of v.blocks periods v.pairs i)
-  row_own k d l =
-      let q = get_or (row_of v.blocks periods v.pairs i) k d in
-      let x = row_only q (k, l, get_or_default (row_of v.blocks periods v.pairs i) k q d l) in
-      (x.own, x.inside)
-
-  -- ---- one node more
-
-  pub node_listed : (old new : RowsView) (added : List (ℕ × ℕ)) → AreNodesBelow v.blocks periods v.pairs i old → IsRowAdded old new (row_of v.blocks periods v.pairs i) added → AreNodesBelow v.blocks periods v.pairs (i + 1) new
-  node_listed old new added so_far more = record {
-    blocks = more.blocks ∙ so_far.blocks;
-    next = omega (arith, more.next, so_far.next);
-    held = λ b p l t.
-        let P : List (ℕ × ℕ) → Type 0 = λ xs. Contains xs (b, p) in
-        subst P (sym more.pairs) (elim (cases_lt b i) [
-          | inl before ↦ Contains-append_left old.pairs added (b, p) (so_far.held b p before t)
-          | inr past ↦
-              let same : i ≡ b = omega (arith, l, past) in
-              let here : IsTrue (rests_by_period v.blocks periods (has_pair v.pairs) i p) = subst (λ k. rests_by_period v.blocks periods (has_pair v.pairs) k p ≡ true) (sym same) t in
-              let c = row_held p here in
-              let d = row_only (i, p) c in
-              let Q : ℕ → Type 0 = λ k. Contains {X = ℕ × ℕ} (old.pairs ++ added) (k, p) in
-              subst Q same (Contains-append_right old.pairs added (i, p) (more.own.held (i, p) c d.apart))
-        ]);
-    only = λ b p c.
-        let P : List (ℕ × ℕ) → Type 0 = λ xs. Contains xs (b, p) in
-        elim (Contains-append_cases old.pairs added (b, p) (subst P more.pairs c)) [
-          | inl before ↦ let x = so_far.only b p before in (omega (arith, x.0), x.1)
-          | inr here ↦
-              let x = row_only (b, p) (more.own.only (b, p) here).0 in
-              let e = x.own in
-              (omega (arith, e), subst (λ k. rests_by_period v.blocks periods (has_pair v.pairs) k p ≡ true) (sym e) x.rests)
-        ];
-  }
-
 -- ---- the row, as it is filled
 
-pub row_made : (n periods : ℕ) (pairs : List (ℕ × ℕ)) (i k : ℕ) (above : List ℕ) (first last : List (ℕ × ℕ)) → k ≡ n → above ≡ above_of pairs (i % k)
-    → first ≡ map (λ a. (i, i / k * k + a)) above → last ≡ first ++ cond (nat_lt (i + k) (periods * k)) ((i, i + k) ∷ []) [] → last ≡ row_of n periods pairs i
-row_made n periods pairs i k above first last e a f l =
-    l ∙ ap (λ (xs : List (ℕ × ℕ)). xs ++ cond (nat_lt (i + k) (periods * k)) ((i, i + k) ∷ []) []) (f ∙ ap (map (λ a. (i, i / k * k + a))) a) ∙ ap (λ (m : ℕ). row_of m periods pairs i) e
+pub row_made : (n periods : ℕ) (pairs : List (ℕ × ℕ)) (i k : ℕ) (above : List ℕ) (old first last : List (ℕ × ℕ)) → k ≡ n → above ≡ above_of pairs (i % k) → old ≡ []
+    → first ≡ old ++ map (λ a. (i, i / k * k + a)) above → last ≡ first ++ cond (nat_lt (i + k) (periods * k)) ((i, i + k) ∷ []) [] → last ≡ row_of n periods pairs i
+row_made n periods pairs i k above old first last e a o f l =
+    l ∙ ap (λ (xs : List (ℕ × ℕ)). xs ++ cond (nat_lt (i + k) (periods * k)) ((i, i + k) ∷ []) []) (f ∙ ap (λ (xs : List (ℕ × ℕ)). xs ++ map (λ a. (i, i / k * k + a)) above) o ∙ ap (map (λ a. (i, i / k * k + a))) a) ∙ ap (λ (m : ℕ). row_of m periods pairs i) e
 
 -- one worth more
 pub worth_pushed : (g : ℕ → ℤ) (xs ys : List ℤ) (x : ℤ) (i : ℕ) → ys ≡ xs ++ x ∷ [] → length xs ≡ i → ((j : ℕ) → j < i → get_or xs j (pos 0) ≡ g j) → x ≡ g i
@@ -191,21 +155,6 @@ worth_pushed g xs ys x i e size before here = (
         get_or_push xs x (pos 0) j (size ∙ same) ∙ here ∙ ap g same
   ],
 )
-
--- ---- all nodes
-
-pub none_listed : (n periods : ℕ) (pairs : List (ℕ × ℕ)) (rows : RowsView) → rows ≡ record { blocks = periods * n; next = 0; pairs = [] } → AreNodesBelow n periods pairs 0 rows
-none_listed n periods pairs rows e =
-    let none = ap (λ (r : RowsView). r.pairs) e in
-    record {
-      blocks = ap (λ (r : RowsView). r.blocks) e;
-      next = ap (λ (r : RowsView). r.next) e;
-      held = λ i j l t. absurd (omega (arith, l));
-      only = λ i j c. absurd (let P : List (ℕ × ℕ) → Type 0 = λ xs. Contains xs (i, j) in let d = subst P none c in omega (arith, d.1));
-    }
-
-pub all_listed : (n periods i : ℕ) (pairs : List (ℕ × ℕ)) (rows : RowsView) → periods * n ≤ i → AreNodesBelow n periods pairs i rows → ((b p : ℕ) → IsTrue (rests_by_period n periods (has_pair pairs) b p) → b < periods * n) → AreNodePairs n periods pairs rows.pairs
-all_listed n periods i pairs rows end h own = record { same = λ b p. (λ c. (h.only b p c).1, λ t. h.held b p (let l = own b p t in omega (arith, l, end)) t) }
 
 -- a node that rests on one is one
 pub node_known : (n periods : ℕ) (rests : ℕ → ℕ → Bool) (i j : ℕ) → IsTrue (rests_by_period n periods rests i j) → i < periods * n

@@ -2,10 +2,12 @@
 
 ghost use Rattle.std.specs.Prelude.{◌≡◌, ◌<◌, ℕ, Bool, List, pos, ◌+ℤ◌, ◌*ℤ◌, length, IfSome};
 ghost use Rattle.closure_net.specs.Mine.{IsRichest, worth_of};
-ghost use Rattle.schedules.specs.Expanded.{expanded, price_of_capacities, sum_below};
+ghost use Rattle.prec_file.specs.Rests.{has_pair};
+ghost use Rattle.schedules.specs.Expanded.{price_of_capacities, sum_below};
 ghost use Rattle.production_figures.specs.Figures.{production_of, capacity_by};
 ghost use Rattle.expanded_mine.specs.Bounds.{IsBound};
 ghost use Rattle.expanded_mine.specs.Nodes.{price_by};
+ghost use Rattle.expanded_mine.specs.Waiting.{waiting_mine};
 
 use crate::node_worths::{price_at, with_product};
 use production_figures::Figures;
@@ -54,12 +56,12 @@ fn price_of_all(figures: &Figures, prices: &[u64]) -> Option<i128>
 
 /// The bound that a pit of the expanded mine gives which is worth so many billionths of millionths: this with all
 /// capacities at their prices, or `None` where it leaves 128 bits. If no pit of the expanded mine is worth more, no feasible
-/// schedule is.
+/// schedule is that keeps its waits.
 pub fn bound_by(figures: &Figures, prices: &[u64], worth: i128) -> Option<i128>
-    ensures bound { IfSome result (λ bound. (pairs : List (ℕ × ℕ)) (chosen : ℕ → Bool)
-        → IsRichest (expanded (production_of pairs figures.now) (price_by figures.now prices.now)) chosen
-        → worth ≡ worth_of (expanded (production_of pairs figures.now) (price_by figures.now prices.now)) chosen
-        → IsBound (production_of pairs figures.now) bound) }
+    ensures bound { IfSome result (λ bound. (pairs waits : List (ℕ × ℕ)) (lag : ℕ) (chosen : ℕ → Bool)
+        → IsRichest (waiting_mine (production_of pairs figures.now) (price_by figures.now prices.now) lag waits) chosen
+        → worth ≡ worth_of (waiting_mine (production_of pairs figures.now) (price_by figures.now prices.now) lag waits) chosen
+        → IsBound (production_of pairs figures.now) lag (has_pair waits) bound) }
     ensures exact { IfSome result (λ bound. (pairs : List (ℕ × ℕ)) → bound ≡ worth +ℤ price_of_capacities
         (production_of pairs figures.now) (price_by figures.now prices.now)) }
 {

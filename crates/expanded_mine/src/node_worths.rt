@@ -1,9 +1,12 @@
 //! What the nodes of the expanded mine are worth.
 
-ghost use Rattle.std.specs.Prelude.{◌≡◌, ◌<◌, ◌+◌, pos, ◌+ℤ◌, ◌-ℤ◌, ◌*ℤ◌, length, IfOk, IfSome, OnOk, ◌++◌, ◌∷◌, []};
-ghost use Rattle.expanded_mine.specs.Nodes.{AreNodeWorths, charge_by, left_by, left_or_none, node_worth, price_by};
+ghost use Rattle.std.specs.Prelude.{◌≡◌, ◌<◌, ◌+◌, ◌*◌, ◌/◌, ◌%◌, pos, ◌+ℤ◌, ◌-ℤ◌, ◌*ℤ◌, length, IfOk, IfSome, OnOk, ◌++◌, ◌∷◌, []};
+ghost use Rattle.expanded_mine.specs.Lists.{AreNodeWorths};
+ghost use Rattle.expanded_mine.specs.Nodes.{charge_by, left_by, left_or_none, node_worth, price_by};
+ghost use Rattle.expanded_mine.specs.Waiting.{is_early, withheld};
 
 use crate::expand_fault::ExpandFault;
+use crate::waits::Waits;
 use fixed_worth::MOST_BLOCKS;
 use production_figures::Figures;
 use std::alloc::Global;
@@ -106,6 +109,47 @@ fn worth_of_node(figures: &Figures, prices: &[u64], b: u32, t: u32) -> Option<i1
     }
 }
 
+// What a node is worth less whose block waits for another, and isn't dug as early as that.
+const WITHHELD: i128 = 1_000_000_000_000_000_000_000_000_000_000;
+
+// Whether a node's block waits for another, so that it isn't dug by the end of a period as early as the node's.
+fn is_early(waits: &Waits, node: u32) -> bool
+    requires { 0 < waits.now.pairs.blocks }
+    ensures { result ≡ is_early waits.now.pairs.blocks waits.now.lag waits.now.pairs.pairs node }
+{
+    let blocks = waits.pairs.len();
+    if node / blocks >= waits.lag {
+        return false;
+    }
+    waits.pairs.above(node % blocks).len() > 0
+}
+
+// A node's worth, less what is withheld of one that is early.
+fn less_withheld(worth: i128, early: bool) -> Option<i128>
+    ensures { IfSome result (λ less. less ≡ worth -ℤ withheld early) }
+{
+    if early {
+        difference(worth, WITHHELD)
+    } else {
+        Some(worth)
+    }
+}
+
+// What node i is worth, period by period.
+fn worth_at(figures: &Figures, prices: &[u64], waits: &Waits, i: u32) -> Option<i128>
+    requires node { i < length figures.now.weights * length figures.now.worths }
+    requires same { waits.now.pairs.blocks ≡ length figures.now.worths }
+    ensures { IfSome result (λ worth. worth ≡ node_worth figures.now prices.now
+        (i % length figures.now.worths) (i / length figures.now.worths)
+        -ℤ withheld (is_early (length figures.now.worths) waits.now.lag waits.now.pairs.pairs i)) }
+{
+    let blocks = figures.blocks();
+    match worth_of_node(figures, prices, i % blocks, i / blocks) {
+        Some(worth) => less_withheld(worth, is_early(waits, i)),
+        None => None,
+    }
+}
+
 // Adds a node's worth to those of the nodes before.
 fn push_worth(worths: &mut Vec<i128>, worth: i128) -> Result<(), ExpandFault>
     ensures { OnOk result (worths.new.items ≡ worths.old.items ++ worth ∷ []) }
@@ -114,7 +158,8 @@ fn push_worth(worths: &mut Vec<i128>, worth: i128) -> Result<(), ExpandFault>
 }
 
 /// What each node of the expanded mine is worth, period by period, in 10^-15 of the unit of the worths: what its block leaves in
-/// its period above the prices of what it uses, less what it leaves in the next one.
+/// its period above the prices of what it uses, less what it leaves in the next one. A node of a block that waits for another is
+/// worth 10^15 units less in the periods in which it is too early.
 ///
 /// # Errors
 /// `TooManyNodes` before all else; `TooLarge` where a number doesn't fit; `NoMemory`.
@@ -122,8 +167,10 @@ pub fn node_worths_of(
     alloc: Global,
     figures: &Figures,
     prices: &[u64],
+    waits: &Waits,
 ) -> Result<Vec<i128>, ExpandFault>
-    ensures { IfOk result (λ v. AreNodeWorths figures.now prices.now v.items) }
+    requires { waits.now.pairs.blocks ≡ length figures.now.worths }
+    ensures { IfOk result (λ v. AreNodeWorths figures.now prices.now waits.now.lag waits.now.pairs.pairs v.items) }
 {
     let blocks = figures.blocks();
     let nodes = figures.periods() as u64 * blocks as u64;
@@ -132,7 +179,7 @@ pub fn node_worths_of(
     }
     let mut worths: Vec<i128> = Vec::new(alloc);
     for i in 0..nodes as u32 {
-        match worth_of_node(figures, prices, i % blocks, i / blocks) {
+        match worth_at(figures, prices, waits, i) {
             Some(worth) => push_worth(&mut worths, worth)?,
             None => return Err(ExpandFault::TooLarge),
         }

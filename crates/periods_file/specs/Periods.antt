@@ -3,24 +3,26 @@ use Rattle.std.specs.Prelude.{◌≡◌, ℕ, Bool, cond, List, [], length, Opti
 use Rattle.toml.specs.Parse.{parse_document}
 use Rattle.toml.specs.Data.{Data, Members, get_member}
 use Rattle.periods_file.specs.declared.keys.PeriodKey.{PeriodKey}
-use Rattle.periods_file.specs.declared.keys.PeriodKey.TheVariants.{Weights, Resources, Capacities, Multipliers}
+use Rattle.periods_file.specs.declared.keys.PeriodKey.TheVariants.{Weights, Resources, Capacities, Multipliers, Waits, Lag}
 use Rattle.periods_file.specs.declared.periods.Periods.{Periods}
 use Rattle.periods_file.specs.declared.periods_fault.PeriodsFault.{PeriodsFault}
 use Rattle.periods_file.specs.declared.periods_fault.PeriodsFault.TheVariants.{NotToml, UnknownKey, BadValue, Missing, NoMemory}
 use Rattle.periods_file.specs.Keys.{key_name, all_known}
-use Rattle.periods_file.specs.Values.{weights_of, resources_of, rows_of}
+use Rattle.periods_file.specs.Values.{weights_of, resources_of, rows_of, lag_of}
 
 -- What periods say: weights in millionths, the columns of resources, and row by row for each resource what each period has of it in
--- whole units, and its price there in billionths.
+-- whole units, and its price there in billionths; the columns of the blocks for which blocks wait, and how many periods they wait.
 pub record PeriodsView : Type 0 where
   pub weights : List ℕ
   pub resources : List ℕ
   pub capacities : List ℕ
   pub multipliers : Option (List ℕ)
+  pub waits : List ℕ
+  pub lag : ℕ
 
 -- what the type shows
 abbrev pub periods_view : Periods → PeriodsView
-periods_view p = record { weights = p.weights.items; resources = p.resources.items; capacities = p.capacities.items; multipliers = option_map (λ v. v.items) p.multipliers }
+periods_view p = record { weights = p.weights.items; resources = p.resources.items; capacities = p.capacities.items; multipliers = option_map (λ v. v.items) p.multipliers; waits = p.waits.items; lag = p.lag }
 
 -- What a value at a key reads as; one that doesn't read is bad.
 abbrev pub or_bad : {V : Type 0} → PeriodKey → Option V → Result V PeriodsFault
@@ -42,6 +44,12 @@ or_none (Ok v) = Ok (Some v)
 or_none (Err (Missing key)) = Ok None
 or_none (Err fault) = Err fault
 
+-- What a key says that may be left out: this where it is missing.
+abbrev pub or_given : {V : Type 0} → V → Result V PeriodsFault → Result V PeriodsFault
+or_given given (Ok v) = Ok v
+or_given given (Err (Missing key)) = Ok given
+or_given given (Err fault) = Err fault
+
 -- The first fault, or what the next step says.
 abbrev pub then_with : {A B : Type 0} → Result A PeriodsFault → (A → Result B PeriodsFault) → Result B PeriodsFault
 then_with (Ok x) next = next x
@@ -54,7 +62,9 @@ values_in ms =
     then_with (said_at Resources resources_of ms) (λ resources.
     then_with (said_at Capacities (rows_of 1000000000000 (length resources) (length weights)) ms) (λ capacities.
     then_with (or_none (said_at Multipliers (rows_of 1000000000000000 (length resources) (length weights)) ms)) (λ multipliers.
-    Ok (record { weights = weights; resources = resources; capacities = capacities; multipliers = multipliers })))))
+    then_with (or_given [] (said_at Waits resources_of ms)) (λ waits.
+    then_with (or_given 1 (said_at Lag lag_of ms)) (λ lag.
+    Ok (record { weights = weights; resources = resources; capacities = capacities; multipliers = multipliers; waits = waits; lag = lag })))))))
 
 -- What a table says of periods, or its first fault: a name that is no key comes before the faults of keys.
 abbrev pub periods_in : Members → Result PeriodsView PeriodsFault

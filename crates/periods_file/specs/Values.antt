@@ -68,6 +68,15 @@ weights_of d = if_holds are_weights (numbers_of 1000000 d)
 abbrev pub resources_of : Data → Option (List ℕ)
 resources_of d = if_holds (λ ns. nat_le (length ns) 8) (numbers_of 65535 d)
 
+-- A number that isn't zero.
+abbrev pub if_some : Option ℕ → Option ℕ
+if_some (Some n) = cond (nat_le 1 n) (Some n) None
+if_some None = None
+
+-- What a value reads as that has to be a lag: a whole number from 1 to 1,000.
+abbrev pub lag_of : Data → Option ℕ
+lag_of d = if_some (whole_value_within 1000 d)
+
 -- What a value reads as that has to be a row: an array of so many whole numbers from 0 to the most.
 abbrev pub row_of : (most width : ℕ) → Data → Option (List ℕ)
 row_of most width d = if_holds (λ ns. length ns == width) (numbers_of most d)

@@ -14,6 +14,10 @@ pub enum PeriodKey {
     Capacities,
     /// The price of each resource in each period.
     Multipliers,
+    /// The columns of the blocks for which blocks wait.
+    Waits,
+    /// How many periods they wait.
+    Lag,
 }
 
 impl PeriodKey {
@@ -26,6 +30,8 @@ impl PeriodKey {
             PeriodKey::Resources => "resources",
             PeriodKey::Capacities => "capacities",
             PeriodKey::Multipliers => "multipliers",
+            PeriodKey::Waits => "waits",
+            PeriodKey::Lag => "lag",
         }
     }
 }
@@ -44,6 +50,12 @@ pub(crate) fn is_key(text: &str) -> bool
         return true;
     }
     if text == PeriodKey::Multipliers.name() {
+        return true;
+    }
+    if text == PeriodKey::Waits.name() {
+        return true;
+    }
+    if text == PeriodKey::Lag.name() {
         return true;
     }
     false

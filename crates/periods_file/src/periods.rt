@@ -1,5 +1,5 @@
 //! What periods say: what each weighs, the columns of the resources, and row by row for each resource what each period has of
-//! it and at what price.
+//! it and at what price; and which blocks wait for which, and how long.
 
 /// What periods say.
 #[derive(Drop)]
@@ -12,4 +12,8 @@ pub struct Periods {
     pub capacities: Vec<u64>,
     /// The price of each resource in each period in billionths, at most 10^15, where there are prices: a row for each resource.
     pub multipliers: Option<Vec<u64>>,
+    /// The columns of the blocks for which blocks wait, at most 8: of none where the text has no such key.
+    pub waits: Vec<u32>,
+    /// How many periods they wait, from 1 to 1,000.
+    pub lag: u32,
 }

@@ -13,7 +13,7 @@ pub enum PeriodsFault {
     UnknownKey,
     /// The key's value has a wrong kind or is out of its range.
     BadValue(PeriodKey),
-    /// The key isn't there. `multipliers` may be left out.
+    /// The key isn't there. `multipliers`, `waits` and `lag` may be left out.
     Missing(PeriodKey),
     /// Memory was refused.
     NoMemory,

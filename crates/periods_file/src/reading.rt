@@ -1,16 +1,17 @@
 //! Reads the text of periods: gives the value of each of its keys, or says that it is no TOML, has an unknown key, a bad
 //! value, or lacks a key.
 
-ghost use Rattle.std.specs.Prelude.{◌≡◌, ◌≤◌, Ok, Err, IfOk, IfErr, MatchResult, length, option_map};
+ghost use Rattle.std.specs.Prelude.{◌≡◌, ◌≤◌, Ok, Err, IfOk, IfErr, MatchResult, [], length, option_map};
 ghost use Rattle.toml.specs.View.{table_view};
 ghost use Rattle.periods_file.specs.Keys.{all_known};
-ghost use Rattle.periods_file.specs.Values.{resources_of, rows_of, weights_of};
-ghost use Rattle.periods_file.specs.Periods.{IsOfTable, ReadsPeriods, or_none, periods_in, periods_view, said_at};
+ghost use Rattle.periods_file.specs.Values.{lag_of, resources_of, rows_of, weights_of};
+ghost use Rattle.periods_file.specs.Periods.{IsOfTable, ReadsPeriods, or_given, or_none, periods_in, periods_view, said_at};
 
 use crate::arrays::{resources_in, rows_in, weights_in};
 use crate::keys::{PeriodKey, is_key};
 use crate::periods::Periods;
 use crate::periods_fault::PeriodsFault;
+use crate::values::lag_in;
 use std::alloc::Global;
 use toml::Table;
 
@@ -122,12 +123,49 @@ fn multipliers_at(
     }
 }
 
+// The columns of the blocks for which blocks wait, which are none where the table has no such key.
+fn waits_at(alloc: Global, table: &Table) -> Result<Vec<u32>, PeriodsFault>
+    ensures value { MatchResult result
+        (λ v. or_given [] (said_at PeriodKey.Waits resources_of (table_view table.now)) ≡ Ok v.items)
+        (λ e. ¬ (e ≡ PeriodsFault.NoMemory)
+        → or_given [] (said_at PeriodKey.Waits resources_of (table_view table.now)) ≡ Err e) }
+    ensures few { IfOk result (λ v. length v.items ≤ 8) }
+    ensures kind { IfErr result IsOfTable }
+{
+    match table.get(PeriodKey::Waits.name()) {
+        Some(value) => match resources_in(alloc, value) {
+            Ok(Some(waits)) => Ok(waits),
+            Ok(None) => Err(PeriodsFault::BadValue(PeriodKey::Waits)),
+            Err(_) => Err(PeriodsFault::NoMemory),
+        },
+        None => Ok(Vec::new(alloc)),
+    }
+}
+
+// How many periods they wait, which is one where the table has no such key.
+fn lag_at(table: &Table) -> Result<u32, PeriodsFault>
+    ensures value { MatchResult result
+        (λ n. or_given 1 (said_at PeriodKey.Lag lag_of (table_view table.now)) ≡ Ok n)
+        (λ e. or_given 1 (said_at PeriodKey.Lag lag_of (table_view table.now)) ≡ Err e) }
+    ensures few { IfOk result (λ n. n ≤ 1000) }
+    ensures kind { IfErr result IsOfTable }
+{
+    match table.get(PeriodKey::Lag.name()) {
+        Some(value) => match lag_in(value) {
+            Some(lag) => Ok(lag),
+            None => Err(PeriodsFault::BadValue(PeriodKey::Lag)),
+        },
+        None => Ok(1),
+    }
+}
+
 // What the table says, or its first fault.
 fn periods_of(alloc: Global, table: &Table) -> Result<Periods, PeriodsFault>
     ensures value { MatchResult result
         (λ p. periods_in (table_view table.now) ≡ Ok (periods_view p))
         (λ e. ¬ (e ≡ PeriodsFault.NoMemory) → periods_in (table_view table.now) ≡ Err e) }
     ensures few { IfOk result (λ p. (length p.weights.items ≤ 1000) × (length p.resources.items ≤ 8)) }
+    ensures waits { IfOk result (λ p. (length p.waits.items ≤ 8) × (p.lag ≤ 1000)) }
     ensures kind { IfErr result IsOfTable }
 {
     if !has_only_keys(table) {
@@ -137,11 +175,15 @@ fn periods_of(alloc: Global, table: &Table) -> Result<Periods, PeriodsFault>
     let resources = resources_at(alloc, table)?;
     let capacities = capacities_at(alloc, table, resources.len(), weights.len())?;
     let multipliers = multipliers_at(alloc, table, resources.len(), weights.len())?;
+    let waits = waits_at(alloc, table)?;
+    let lag = lag_at(table)?;
     Ok(Periods {
         weights,
         resources,
         capacities,
         multipliers,
+        waits,
+        lag,
     })
 }
 
@@ -156,6 +198,7 @@ pub fn read_periods(alloc: Global, bytes: &[u8]) -> Result<Periods, PeriodsFault
         (λ p. ReadsPeriods bytes.now (Ok (periods_view p)))
         (λ e. ReadsPeriods bytes.now (Err e)) }
     ensures few { IfOk result (λ p. (length p.weights.items ≤ 1000) × (length p.resources.items ≤ 8)) }
+    ensures waits { IfOk result (λ p. (length p.waits.items ≤ 8) × (p.lag ≤ 1000)) }
 {
     let text = match std::str::from_utf8(bytes) {
         Ok(text) => text,

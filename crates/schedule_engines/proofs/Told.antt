@@ -59,12 +59,12 @@ module _ {D : Type 0} (inputs : MineInputs D) (remaining : D → Option (List �
         (inr (inl (n, subst (DenoteMine texts) (sym size) r.0.mine, k)), at_fault texts p u s w e)))
 
     -- what holds of any texts of what was read holds of these
-    pub schedule_answer : (nanos : List ℤ) (said : PeriodsView) (used listed : List ℕ) (old new : Option (List ℕ)) (result : Result Bool PlanFault) → nanos ≡ nanos_at worths factor
-        → ForThree o q t (λ p u s. ReadsPeriodsText p said × ReadsUses n said.resources u used × ReadsScheduleText n (length said.weights) s listed)
-        → ((texts : MineTexts) (p u s : List ℕ) → AreRead texts nanos rests → ReadsPeriodsText p said → ReadsUses rests.blocks said.resources u used → ReadsScheduleText rests.blocks (length said.weights) s listed → Writes texts p u s old new result)
+    pub schedule_answer : (nanos : List ℤ) (said : PeriodsView) (used listed : List ℕ) (lags : RestsView) (old new : Option (List ℕ)) (result : Result Bool PlanFault) → nanos ≡ nanos_at worths factor
+        → ForThree o q t (λ p u s. ReadsPeriodsText p said × ReadsUses n said.resources said.waits u used lags × ReadsScheduleText n (length said.weights) s listed)
+        → ((texts : MineTexts) (p u s : List ℕ) → AreRead texts nanos rests → ReadsPeriodsText p said → ReadsUses rests.blocks said.resources said.waits u used lags → ReadsScheduleText rests.blocks (length said.weights) s listed → Writes texts p u s old new result)
         → Answers (λ p u s texts. Writes texts p u s old new result)
-    schedule_answer nanos said used listed old new result is f writes =
-        let P : List ℕ → List ℕ → List ℕ → Type 0 = λ p u s. ReadsPeriodsText p said × ReadsUses n said.resources u used × ReadsScheduleText n (length said.weights) s listed in
+    schedule_answer nanos said used listed lags old new result is f writes =
+        let P : List ℕ → List ℕ → List ℕ → Type 0 = λ p u s. ReadsPeriodsText p said × ReadsUses n said.resources said.waits u used lags × ReadsScheduleText n (length said.weights) s listed in
         under_three o q t P (λ p u s. ForTexts inputs remaining factor (λ texts. Writes texts p u s old new result)) f (λ p u s k.
         for_texts inputs remaining factor (λ texts. IsMineRead texts factor worths rests) (λ texts. Writes texts p u s old new result) (h factor) (λ texts r.
-        writes texts p u s (read_as texts (nanos_at worths factor) nanos rests is r.0) k.0 (subst (λ (m : ℕ). ReadsUses m said.resources u used) size k.1) (subst (λ (m : ℕ). ReadsScheduleText m (length said.weights) s listed) size k.2)))
+        writes texts p u s (read_as texts (nanos_at worths factor) nanos rests is r.0) k.0 (subst (λ (m : ℕ). ReadsUses m said.resources said.waits u used lags) size k.1) (subst (λ (m : ℕ). ReadsScheduleText m (length said.weights) s listed) size k.2)))

@@ -1,14 +1,69 @@
--- What was read of the columns of a model is what the text has there.
-use Rattle.fixed_worth.proofs.Common.{◌≡◌, ℕ, suc, Option, Some, None, Result, Ok, Err, MatchResult, IfSome, ◌+◌, ◌*◌, ◌/◌, ◌%◌, ◌<◌, ◌≤◌, ℤ, pos, ◌<ℤ◌, List, length, slice_index, sym, ap, ap₂, subst, ◌∙◌, arith, div-mul-add, mul-le}
-use Rattle.std.specs.Global.{Vec}
-use Rattle.std.proofs.lemmas.Nat.{mod-mul-add}
+-- What blocks use and for which they wait, by the columns of a model that was read of a text.
+use Rattle.fixed_worth.proofs.Common.{◌≡◌, ℕ, zero, suc, Option, Some, None, Result, Ok, Err, MatchResult, IfSome, ◌+◌, ◌*◌, ◌/◌, ◌%◌, ◌<◌, ◌≤◌, ℤ, pos, ◌<ℤ◌, unsigned_abs, List, [], ◌∷◌, ◌++◌, length, get_or, slice_index, inl, inr, refl, sym, ap, ap₂, subst, ◌∙◌, arith, ints, add-one, cases_lt, div-mul-add, mul-le, length-append, get_or_append_left, get_or-append-add}
+use Rattle.std.proofs.lemmas.Nat.{mod-mul-add, mod_below, div_below}
+use Rattle.prec_file.specs.Rests.{ArePairsOf, RestsView}
 use Rattle.blocks_file.specs.Denotes.{BlocksView}
-use Rattle.mine_inputs.specs.BlockTexts.{ReadsBlocks}
+use Rattle.mine_inputs.specs.BlockTexts.{BlocksFails, BlocksReadFails, ReadsBlocks}
+use Rattle.mine_inputs.specs.declared.engine_fault.EngineFault.{EngineFault}
+use Rattle.mine_inputs.specs.Prelude.{ArePairsBy, cell, rests_by}
 use Rattle.mine_inputs.specs.declared.engine_fault.EngineFault.TheVariants as engine
+use Rattle.mine_inputs.proofs.Listed.{by_listed}
+use Rattle.schedules.proofs.Layers.{some_blocks}
 use Rattle.schedule_engines.specs.declared.schedule_fault.PeriodsProblem.TheVariants as period_problem
 use Rattle.schedule_engines.specs.declared.schedule_fault.PlanFault.{PlanFault}
 use Rattle.schedule_engines.specs.declared.schedule_fault.PlanFault.TheVariants as plan
-use Rattle.schedule_engines.specs.PlanTexts.{AreUses, ReadsUses, UsesFail, UsesWrong, use_in}
+use Rattle.schedule_engines.specs.declared.uses.Uses.{Uses}
+use Rattle.schedule_engines.specs.PlanTexts.{ReadsUses, UsesFail, UsesWrong}
+use Rattle.schedule_engines.specs.Uses.{AreUses, HasWaits, IsBlock, first_pairs, use_in}
+
+-- ---- the number of a block
+
+pub below_zero : (n : ℕ) (z : ℤ) → z <ℤ pos 0 → ¬ (IsBlock n z)
+below_zero n z h x = let e = x.2 in omega (arith, ints, h, e)
+
+pub no_whole : (n size : ℕ) (z : ℤ) → z ≡ pos size → ¬ (size / 1000000 * 1000000 ≡ size) → ¬ (IsBlock n z)
+no_whole n size z is h x =
+    let e : size ≡ x.0 * 1000000 = omega (arith, ints, sym is ∙ x.2) in
+    let d : (x.0 * 1000000 + 0) / 1000000 ≡ x.0 = div-mul-add x.0 1000000 0 (omega arith) in
+    let q : size / 1000000 ≡ (x.0 * 1000000 + 0) / 1000000 = ap (λ (k : ℕ). k / 1000000) (omega (arith, e)) in
+    h (omega (arith, e, d, q))
+
+pub too_high : (n size : ℕ) (z : ℤ) → z ≡ pos size → n ≤ size / 1000000 → ¬ (IsBlock n z)
+too_high n size z is h x =
+    let e : size ≡ x.0 * 1000000 = omega (arith, ints, sym is ∙ x.2) in
+    let d : (x.0 * 1000000 + 0) / 1000000 ≡ x.0 = div-mul-add x.0 1000000 0 (omega arith) in
+    let q : size / 1000000 ≡ (x.0 * 1000000 + 0) / 1000000 = ap (λ (k : ℕ). k / 1000000) (omega (arith, e)) in
+    let low = x.1 in
+    omega (arith, d, q, h, low)
+
+-- ---- the pairs of blocks that wait, number by number
+
+-- one number more
+pub wait_listed : (n i a : ℕ) (at : ℕ → ℕ → ℤ) (z : ℤ) (xs ys : List (ℕ × ℕ)) → ys ≡ xs ++ (i % n, a) ∷ [] → xs ≡ first_pairs n at i → z ≡ at (i / n) (i % n) → a ≡ unsigned_abs z / 1000000 → ys ≡ first_pairs n at (i + 1)
+wait_listed n i a at z xs ys e is here of =
+    e ∙ ap₂ (λ (ps : List (ℕ × ℕ)) (k : ℕ). ps ++ (i % n, k) ∷ []) is (of ∙ ap (λ (w : ℤ). unsigned_abs w / 1000000) here) ∙ sym (ap (first_pairs n at) (add-one i))
+
+pub waits_known : (n i a : ℕ) (at : ℕ → ℕ → ℤ) (z : ℤ) → z ≡ at (i / n) (i % n) → a < n → z ≡ pos (a * 1000000) → ((k : ℕ) → k < i → IsBlock n (at (k / n) (k % n))) → (k : ℕ) → k < i + 1 → IsBlock n (at (k / n) (k % n))
+waits_known n i a at z here low is before k l = elim (cases_lt k i) [
+  | inl less ↦ before k less
+  | inr past ↦
+      let same : i ≡ k = omega (arith, l, past) in
+      subst (λ (j : ℕ). IsBlock n (at (j / n) (j % n))) same (a, low, sym here ∙ is)
+]
+
+-- all of them
+pub has_waits : (m : BlocksView) (first count n i : ℕ) (listed : List (ℕ × ℕ)) (rests : RestsView) → m.blocks ≡ n → i ≡ count * n → listed ≡ first_pairs n (λ c b. use_in m (first + c) b) i
+    → ((k : ℕ) → k < i → IsBlock n (use_in m (first + k / n) (k % n))) → rests.blocks ≡ n → ArePairsOf listed rests.pairs → HasWaits m first count rests
+has_waits m first count n i listed rests same end is known size pairs = record {
+  blocks = size ∙ sym same;
+  known = λ j l.
+      let many = ap (λ (k : ℕ). count * k) same in
+      subst (λ (k : ℕ). IsBlock k (use_in m (first + j / k) (j % k))) (sym same) (known j (omega (arith, end, l, many)));
+  are = subst (λ (ps : List (ℕ × ℕ)). ArePairsBy (rests_by ps) rests.pairs) (is ∙ ap (first_pairs n (λ c b. use_in m (first + c) b)) end ∙ ap (λ (k : ℕ). first_pairs k (λ c b. use_in m (first + c) b) (count * k)) (sym same))
+      (by_listed listed rests.pairs pairs);
+}
+
+-- ---- columns of a text and of its model
 
 -- the number at a place of a row is among all of them
 in_rows : (r b n m : ℕ) → r < m → b < n → r * n + b < m * n
@@ -16,39 +71,83 @@ in_rows r b n m l k =
     let rows : suc r * n ≤ m * n = mul-le (suc r) n m n (omega (arith, l)) (omega arith) in
     omega (arith, rows, k)
 
-pub uses_read : (n : ℕ) (columns text uses : List ℕ) (m : BlocksView) → ReadsBlocks columns text m → m.blocks ≡ n → AreUses m uses → ReadsUses n columns text uses
-uses_read n columns text uses m h same are =
-    let d = h.2 in
-    record {
-      within = h.0;
-      read = h.1;
-      count = sym d.count ∙ same;
-      size = are.size ∙ ap₂ (λ (w k : ℕ). w * k) d.all_columns same;
-      each = λ r b known l.
-          let k : b < m.blocks = omega (arith, l, same) in
-          let c : r < length m.columns = omega (arith, known, d.all_columns) in
-          let here = are.each (r * m.blocks + b) (in_rows r b m.blocks (length m.columns) c k) in
-          let row : (r * m.blocks + b) / m.blocks ≡ r = div-mul-add r m.blocks b k in
-          let place : (r * m.blocks + b) % m.blocks ≡ b = mod-mul-add r m.blocks b k in
-          ap (λ (w : ℕ). pos (slice_index uses (r * w + b))) (sym same) ∙ here ∙ ap₂ (λ (i j : ℕ). use_in m i j) row place ∙ d.value r b known k;
-    }
+-- two ways to read numbers that agree list the same pairs
+pairs_alike : (n : ℕ) (f g : ℕ → ℕ → ℤ) (k : ℕ) → ((i : ℕ) → i < k → f (i / n) (i % n) ≡ g (i / n) (i % n)) → first_pairs n f k ≡ first_pairs n g k
+pairs_alike n f g zero h = refl
+pairs_alike n f g (suc k) h =
+    ap₂ (λ (xs : List (ℕ × ℕ)) (z : ℤ). xs ++ (k % n, unsigned_abs z / 1000000) ∷ []) (pairs_alike n f g k (λ i l. h i (omega (arith, l)))) (h k (omega arith))
 
--- what is wrong with the columns of a model is wrong with the text that it is read of
-pub uses_wrong : (n : ℕ) (columns text : List ℕ) (m : BlocksView) (e : PlanFault) → ReadsBlocks columns text m → UsesWrong m n e → UsesFail n columns text e
-uses_wrong n columns text m (plan.Periods period_problem.BlockCount) h wrong =
-    let d = h.2 in
-    (h.0, h.1, λ same. wrong (d.count ∙ same))
-uses_wrong n columns text m (plan.Periods (period_problem.NegativeUse r b)) h wrong =
-    let d = h.2 in
-    let known : r < length columns = omega (arith, wrong.1, d.all_columns) in
-    let k : b < m.blocks = omega (arith, wrong.0, wrong.2) in
-    (h.0, h.1, sym d.count ∙ wrong.0, known, wrong.2, subst (λ (z : ℤ). z <ℤ pos 0) (d.value r b known k) wrong.3)
-uses_wrong n columns text m (plan.Engine engine.Memory) h wrong = tt
-uses_wrong n columns text m _ h wrong = absurd wrong
+module _ (n : ℕ) (columns waits text : List ℕ) (m : BlocksView) (h : ReadsBlocks (columns ++ waits) text m) where
+  use_cell : (r b : ℕ) → r < length columns → b < m.blocks → use_in m r b ≡ cell text (get_or columns r 0) b
+  use_cell r b l k = h.2.value r b (omega (arith, l, length-append columns waits)) k ∙ ap (λ (j : ℕ). cell text j b) (get_or_append_left columns waits 0 r l)
+
+  wait_cell : (c b : ℕ) → c < length waits → b < m.blocks → use_in m (length columns + c) b ≡ cell text (get_or waits c 0) b
+  wait_cell c b l k = h.2.value (length columns + c) b (omega (arith, l, length-append columns waits)) k ∙ ap (λ (j : ℕ). cell text j b) (get_or-append-add columns waits c 0)
+
+  pub uses_read : m.blocks ≡ n → (uses : List ℕ) (lags : RestsView) → AreUses m (length columns) uses → HasWaits m (length columns) (length waits) lags → ReadsUses n columns waits text uses lags
+  uses_read same uses lags are has =
+      let d = h.2 in
+      let W = length waits in
+      let at : ℕ → ℕ → ℤ = λ c b. cell text (slice_index waits c) b in
+      let alike : first_pairs m.blocks (λ c b. use_in m (length columns + c) b) (W * m.blocks) ≡ first_pairs m.blocks at (W * m.blocks) = pairs_alike m.blocks (λ c b. use_in m (length columns + c) b) at (W * m.blocks) (λ i l.
+      let some = some_blocks m.blocks W i l in wait_cell (i / m.blocks) (i % m.blocks) (div_below i m.blocks W some l) (mod_below i m.blocks some)) in
+      let whole = alike ∙ ap (λ (k : ℕ). first_pairs k at (W * k)) same in
+      record {
+        within = h.0;
+        read = h.1;
+        count = sym d.count ∙ same;
+        size = are.size ∙ ap (λ (k : ℕ). length columns * k) same;
+        each = λ r b known l.
+            let k : b < m.blocks = omega (arith, l, same) in
+            let here = are.each (r * m.blocks + b) (in_rows r b m.blocks (length columns) known k) in
+            let row : (r * m.blocks + b) / m.blocks ≡ r = div-mul-add r m.blocks b k in
+            let place : (r * m.blocks + b) % m.blocks ≡ b = mod-mul-add r m.blocks b k in
+            ap (λ (w : ℕ). pos (slice_index uses (r * w + b))) (sym same) ∙ here ∙ ap₂ (λ (i j : ℕ). use_in m i j) row place ∙ use_cell r b known k;
+        waiting = record {
+          blocks = has.blocks ∙ same;
+          known = λ c b known l.
+              let k : b < m.blocks = omega (arith, l, same) in
+              let here = has.known (c * m.blocks + b) (in_rows c b m.blocks W known k) in
+              let row : (c * m.blocks + b) / m.blocks ≡ c = div-mul-add c m.blocks b k in
+              let place : (c * m.blocks + b) % m.blocks ≡ b = mod-mul-add c m.blocks b k in
+              let e = ap₂ (λ (i j : ℕ). use_in m (length columns + i) j) row place ∙ wait_cell c b known k in
+              subst (λ (z : ℤ). IsBlock n z) e (subst (λ (w : ℕ). IsBlock w (use_in m (length columns + (c * m.blocks + b) / m.blocks) ((c * m.blocks + b) % m.blocks))) same here);
+          are = subst (λ (ps : List (ℕ × ℕ)). ArePairsBy (rests_by ps) lags.pairs) whole has.are;
+        };
+      }
+
+  -- what is wrong with the columns of a model is wrong with the text that it is read of
+  pub uses_wrong : (e : PlanFault) → UsesWrong m (length columns) (length waits) n e → UsesFail n columns waits text e
+  uses_wrong (plan.Periods period_problem.BlockCount) wrong = (h.0, h.1, λ is. wrong (h.2.count ∙ is))
+  uses_wrong (plan.Periods (period_problem.NegativeUse r b)) wrong =
+      let k : b < m.blocks = omega (arith, wrong.0, wrong.2) in
+      (h.0, h.1, sym h.2.count ∙ wrong.0, wrong.1, wrong.2, subst (λ (z : ℤ). z <ℤ pos 0) (use_cell r b wrong.1 k) wrong.3)
+  uses_wrong (plan.Periods (period_problem.UnknownWait c b)) wrong =
+      let k : b < m.blocks = omega (arith, wrong.0, wrong.2) in
+      (h.0, h.1, sym h.2.count ∙ wrong.0, wrong.1, wrong.2, λ x. wrong.3 (subst (λ (z : ℤ). IsBlock n z) (sym (wait_cell c b wrong.1 k)) x))
+  uses_wrong (plan.Engine engine.Memory) wrong = tt
+  uses_wrong _ wrong = absurd wrong
+
+  answer_of : (answer : Result Uses PlanFault) → MatchResult answer (λ u. (m.blocks ≡ n) × AreUses m (length columns) u.amounts.items × HasWaits m (length columns) (length waits) u.waits) (UsesWrong m (length columns) (length waits) n)
+      → MatchResult answer (λ u. ReadsUses n columns waits text u.amounts.items u.waits) (UsesFail n columns waits text)
+  answer_of (Ok u) are = uses_read are.0 u.amounts.items u.waits are.1 are.2
+  answer_of (Err e) wrong = uses_wrong e wrong
 
 -- what was read of a text of blocks, where its device tells its bytes
-pub uses_answer : (o : Option (List ℕ)) (n : ℕ) (columns : List ℕ) (m : BlocksView) (answer : Result (Vec ℕ) PlanFault) → IfSome o (λ text. ReadsBlocks columns text m)
-    → MatchResult answer (λ v. (m.blocks ≡ n) × AreUses m v.items) (UsesWrong m n) → IfSome o (λ text. MatchResult answer (λ v. ReadsUses n columns text v.items) (UsesFail n columns text))
-uses_answer None n columns m answer h are = tt
-uses_answer (Some text) n columns m (Ok v) h are = uses_read n columns text v.items m h are.0 are.1
-uses_answer (Some text) n columns m (Err e) h are = uses_wrong n columns text m e h are
+pub uses_answer : (o : Option (List ℕ)) (n : ℕ) (columns waits all : List ℕ) (first count : ℕ) (m : BlocksView) (answer : Result Uses PlanFault) → all ≡ columns ++ waits → first ≡ length columns → count ≡ length waits
+    → IfSome o (λ text. ReadsBlocks all text m)
+    → MatchResult answer (λ u. (m.blocks ≡ n) × AreUses m first u.amounts.items × HasWaits m first count u.waits) (UsesWrong m first count n)
+    → IfSome o (λ text. MatchResult answer (λ u. ReadsUses n columns waits text u.amounts.items u.waits) (UsesFail n columns waits text))
+uses_answer None n columns waits all first count m answer whole few many h are = tt
+uses_answer (Some text) n columns waits all first count m answer whole few many h are =
+    answer_of n columns waits text m (subst (λ (cs : List ℕ). ReadsBlocks cs text m) whole h) answer
+    (subst (λ (k : ℕ). MatchResult answer (λ u. (m.blocks ≡ n) × AreUses m (length columns) u.amounts.items × HasWaits m (length columns) k u.waits) (UsesWrong m (length columns) k n)) many
+    (subst (λ (k : ℕ). MatchResult answer (λ u. (m.blocks ≡ n) × AreUses m k u.amounts.items × HasWaits m k count u.waits) (UsesWrong m k count n)) few are))
+
+-- the text is no text of blocks
+pub blocks_unread : (o : Option (List ℕ)) (n : ℕ) (columns waits all : List ℕ) (e : EngineFault) → all ≡ columns ++ waits → IfSome o (λ text. BlocksReadFails all text e) → IfSome o (λ text. UsesFail n columns waits text (plan.Engine e))
+blocks_unread None n columns waits all e whole h = tt
+blocks_unread (Some text) n columns waits all (engine.Blocks p) whole h = subst (λ (cs : List ℕ). BlocksFails cs text p) whole h
+blocks_unread (Some text) n columns waits all engine.Memory whole h = tt
+blocks_unread (Some text) n columns waits all engine.Device whole h = tt
+blocks_unread (Some text) n columns waits all _ whole h = absurd h

@@ -11,7 +11,8 @@ abbrev pub periods_problem_text : PeriodsProblem → List ℕ
 periods_problem_text periods.InputTooLong = codes "InputTooLong"
 periods_problem_text (periods.Fault fault) = periods_fault_text fault
 periods_problem_text periods.BlockCount = codes "BlockCount"
-periods_problem_text (periods.NegativeUse r b) = codes "NegativeUse(" ++ (decimal r ++ (codes ", " ++ (decimal b ++ codes ")")))
+periods_problem_text (periods.NegativeUse r b) = codes "NegativeUse" ++ (codes "(" ++ (decimal r ++ (codes ", " ++ (decimal b ++ codes ")"))))
+periods_problem_text (periods.UnknownWait c b) = codes "UnknownWait" ++ (codes "(" ++ (decimal c ++ (codes ", " ++ (decimal b ++ codes ")"))))
 periods_problem_text periods.TooLarge = codes "TooLarge"
 
 abbrev pub schedule_problem_text : ScheduleProblem → List ℕ

@@ -1,3 +1,5 @@
+-- what blocks use and for which they wait, by columns of a model
+pub mod Uses
 -- the texts of periods, of what blocks use, and of a schedule
 pub mod PlanTexts
 -- the production that texts denote, and what a schedule of it comes to

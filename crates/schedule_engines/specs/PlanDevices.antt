@@ -19,4 +19,4 @@ plan_failures beside failed = failed beside.periods + failed beside.uses + faile
 
 -- what was read of the texts, for n blocks
 abbrev pub IsPlanRead : ℕ → PlanRead → List ℕ → List ℕ → List ℕ → Type 0
-IsPlanRead n r periods uses schedule = ReadsPeriodsText periods (periods_view r.periods) × ReadsUses n r.periods.resources.items uses r.uses.items × ReadsScheduleText n (length r.periods.weights.items) schedule r.schedule.items
+IsPlanRead n r periods uses schedule = ReadsPeriodsText periods (periods_view r.periods) × ReadsUses n r.periods.resources.items r.periods.waits.items uses r.uses.items r.waits × ReadsScheduleText n (length r.periods.weights.items) schedule r.schedule.items

@@ -1,5 +1,6 @@
 -- Reading the texts of periods, of what blocks use, and of a schedule, as an engine does.
-use Rattle.std.specs.Prelude.{◌≡◌, ◌⊎◌, ℕ, ◌+◌, ◌*◌, ◌/◌, ◌%◌, ◌<◌, ℤ, pos, ◌<ℤ◌, List, [], length, slice_index, slice_index_or, Some, None, Ok, Err}
+use Rattle.std.specs.Prelude.{◌≡◌, ◌⊎◌, ℕ, ◌+◌, ◌*◌, ◌<◌, pos, ◌<ℤ◌, List, ◌++◌, length, slice_index, Some, None, Ok, Err}
+use Rattle.prec_file.specs.Rests.{RestsView}
 use Rattle.blocks_file.specs.Denotes.{BlocksView}
 use Rattle.blocks_file.specs.Records as blocks
 use Rattle.mine_inputs.specs.Prelude.{BlocksFails, IsTooLong, IsWithinLimit, cell}
@@ -10,6 +11,7 @@ use Rattle.schedule_engines.specs.declared.schedule_fault.PeriodsProblem.TheVari
 use Rattle.schedule_engines.specs.declared.schedule_fault.ScheduleProblem.TheVariants as schedule_problem
 use Rattle.schedule_engines.specs.declared.schedule_fault.PlanFault.{PlanFault}
 use Rattle.schedule_engines.specs.declared.schedule_fault.PlanFault.TheVariants as plan
+use Rattle.schedule_engines.specs.Uses.{AreWaits, IsBlock, use_in}
 
 -- the text isn't too long, and says this of periods
 abbrev pub ReadsPeriodsText : List ℕ → PeriodsView → Type 0
@@ -19,23 +21,15 @@ ReadsPeriodsText text p = IsWithinLimit text × ReadsPeriods text (Ok p)
 abbrev pub ReadsScheduleText : ℕ → ℕ → List ℕ → List ℕ → Type 0
 ReadsScheduleText n periods text listed = IsWithinLimit text × (schedule.fault_of n periods text ≡ None) × schedule.ArePeriods n periods text listed
 
--- what block b of a model has in the column that was chosen as the r-th
-abbrev pub use_in : BlocksView → ℕ → ℕ → ℤ
-use_in m r b = slice_index_or (slice_index_or m.columns r []) b (pos 0)
-
--- these are the numbers of the columns of a model, column by column
-pub record AreUses (m : BlocksView) (uses : List ℕ) : Type 0 where
-  pub size : length uses ≡ length m.columns * m.blocks
-  pub each : (i : ℕ) → i < length m.columns * m.blocks → pos (slice_index uses i) ≡ use_in m (i / m.blocks) (i % m.blocks)
-
--- The text isn't too long, has the columns without a fault, and is of n blocks; and these are their numbers, column by column, none of
--- which is negative.
-pub record ReadsUses (n : ℕ) (columns text uses : List ℕ) : Type 0 where
+-- The text isn't too long, has the columns of resources and of blocks that wait without a fault, and is of n blocks; these are the numbers
+-- of resources, column by column, none of which is negative, and these are the pairs of blocks that wait.
+pub record ReadsUses (n : ℕ) (columns waits text uses : List ℕ) (lags : RestsView) : Type 0 where
   pub within : IsWithinLimit text
-  pub read : blocks.fault_of columns text ≡ None
+  pub read : blocks.fault_of (columns ++ waits) text ≡ None
   pub count : blocks.record_count_of text ≡ n
   pub size : length uses ≡ length columns * n
   pub each : (r b : ℕ) → r < length columns → b < n → pos (slice_index uses (r * n + b)) ≡ cell text (slice_index columns r) b
+  pub waiting : AreWaits n waits text lags
 
 -- ---- how reading them fails; want of memory and a failing device say nothing of a text
 
@@ -55,26 +49,29 @@ ScheduleTextFails n periods text (plan.Engine engine.Memory) = Unit {0}
 ScheduleTextFails n periods text (plan.Engine engine.Device) = Unit {0}
 ScheduleTextFails n periods text _ = ⊥
 
--- the columns of a model are no uses of n blocks
-abbrev pub UsesWrong : BlocksView → ℕ → PlanFault → Type 0
-UsesWrong m n (plan.Periods period_problem.BlockCount) = ¬ (m.blocks ≡ n)
-UsesWrong m n (plan.Periods (period_problem.NegativeUse r b)) = (m.blocks ≡ n) × (r < length m.columns) × (b < n) × (use_in m r b <ℤ pos 0)
-UsesWrong m n (plan.Engine engine.Memory) = Unit {0}
-UsesWrong m n _ = ⊥
+-- the columns of a model, so many of resources and so many of blocks that wait, are none of n blocks
+abbrev pub UsesWrong : BlocksView → ℕ → ℕ → ℕ → PlanFault → Type 0
+UsesWrong m resources waits n (plan.Periods period_problem.BlockCount) = ¬ (m.blocks ≡ n)
+UsesWrong m resources waits n (plan.Periods (period_problem.NegativeUse r b)) = (m.blocks ≡ n) × (r < resources) × (b < n) × (use_in m r b <ℤ pos 0)
+UsesWrong m resources waits n (plan.Periods (period_problem.UnknownWait c b)) = (m.blocks ≡ n) × (c < waits) × (b < n) × ¬ (IsBlock n (use_in m (resources + c) b))
+UsesWrong m resources waits n (plan.Engine engine.Memory) = Unit {0}
+UsesWrong m resources waits n _ = ⊥
 
--- The text has no uses of n blocks: it is no text of blocks with these columns, or is of another number of blocks, or a use is negative.
-abbrev pub UsesFail : ℕ → List ℕ → List ℕ → PlanFault → Type 0
-UsesFail n columns text (plan.Engine (engine.Blocks p)) = BlocksFails columns text p
-UsesFail n columns text (plan.Engine engine.Memory) = Unit {0}
-UsesFail n columns text (plan.Engine engine.Device) = Unit {0}
-UsesFail n columns text (plan.Periods period_problem.BlockCount) = IsWithinLimit text × (blocks.fault_of columns text ≡ None) × ¬ (blocks.record_count_of text ≡ n)
-UsesFail n columns text (plan.Periods (period_problem.NegativeUse r b)) = IsWithinLimit text × (blocks.fault_of columns text ≡ None) × (blocks.record_count_of text ≡ n) × (r < length columns) × (b < n) × (cell text (slice_index columns r) b <ℤ pos 0)
-UsesFail n columns text _ = ⊥
+-- The text has no uses of n blocks: it is no text of blocks with these columns, or is of another number of blocks, or a use is negative, or
+-- what a block waits for is none of the blocks.
+abbrev pub UsesFail : ℕ → (columns waits text : List ℕ) → PlanFault → Type 0
+UsesFail n columns waits text (plan.Engine (engine.Blocks p)) = BlocksFails (columns ++ waits) text p
+UsesFail n columns waits text (plan.Engine engine.Memory) = Unit {0}
+UsesFail n columns waits text (plan.Engine engine.Device) = Unit {0}
+UsesFail n columns waits text (plan.Periods period_problem.BlockCount) = IsWithinLimit text × (blocks.fault_of (columns ++ waits) text ≡ None) × ¬ (blocks.record_count_of text ≡ n)
+UsesFail n columns waits text (plan.Periods (period_problem.NegativeUse r b)) = IsWithinLimit text × (blocks.fault_of (columns ++ waits) text ≡ None) × (blocks.record_count_of text ≡ n) × (r < length columns) × (b < n) × (cell text (slice_index columns r) b <ℤ pos 0)
+UsesFail n columns waits text (plan.Periods (period_problem.UnknownWait c b)) = IsWithinLimit text × (blocks.fault_of (columns ++ waits) text ≡ None) × (blocks.record_count_of text ≡ n) × (c < length waits) × (b < n) × ¬ (IsBlock n (cell text (slice_index waits c) b))
+UsesFail n columns waits text _ = ⊥
 
 -- Why the texts beside a mine of n blocks aren't read: the fault is one of the periods; or, where these are read, one of what blocks
 -- use; or, where that is read too, one of the schedule.
 abbrev pub LaterFails : ℕ → List ℕ → List ℕ → PeriodsView → PlanFault → Type 0
-LaterFails n uses text said e = UsesFail n said.resources uses e ⊎ ScheduleTextFails n (length said.weights) text e
+LaterFails n uses text said e = UsesFail n said.resources said.waits uses e ⊎ ScheduleTextFails n (length said.weights) text e
 
 abbrev pub PlanReadFails : ℕ → List ℕ → List ℕ → List ℕ → PlanFault → Type 0
 PlanReadFails n periods uses text e = PeriodsTextFails periods e ⊎ ((said : PeriodsView) × ReadsPeriodsText periods said × LaterFails n uses text said e)

@@ -1,5 +1,5 @@
 -- The lines of a schedule.
-use Rattle.std.specs.Prelude.{ℕ, zero, Bool, true, false, List, [], ◌∷◌, ◌++◌, codes, decimal, Option}
+use Rattle.std.specs.Prelude.{ℕ, zero, Bool, true, false, List, [], ◌∷◌, ◌++◌, codes, decimal, cond, ◌==◌, Option}
 use Rattle.std.specs.Io.KnownBytes.{Keeps}
 use Rattle.fixed_worth.specs.Prelude.{ReceivedPrefix, amount_text}
 use Rattle.std.specs.List.{flat_map}
@@ -8,12 +8,16 @@ use Rattle.mine_inputs.specs.declared.engine_fault.EngineFault.TheVariants as en
 use Rattle.schedule_value.specs.declared.usage.Over.{Over}
 use Rattle.schedule_value.specs.Judging.{JudgedView}
 
--- the line of a pair that is broken
-abbrev pub breaks_line : ℕ × ℕ → List ℕ
-breaks_line pair = codes "BREAKS " ++ (decimal pair.0 ++ (codes " " ++ (decimal pair.1 ++ 10 ∷ [])))
+-- the line of a pair behind a word, and those of pairs
+abbrev pub pair_line : List ℕ → ℕ × ℕ → List ℕ
+pair_line word pair = word ++ (codes " " ++ (decimal pair.0 ++ (codes " " ++ (decimal pair.1 ++ 10 ∷ []))))
 
-abbrev pub breaks_text : List (ℕ × ℕ) → List ℕ
-breaks_text pairs = flat_map breaks_line pairs
+abbrev pub pairs_text : List ℕ → List (ℕ × ℕ) → List ℕ
+pairs_text word pairs = flat_map (pair_line word) pairs
+
+-- how many pairs are too early, and the first of them; nothing where none is
+abbrev pub early_text : ℕ → List (ℕ × ℕ) → List ℕ
+early_text count first = cond (count == 0) [] (codes "EARLY " ++ (decimal count ++ (10 ∷ pairs_text (codes "WAITS") first)))
 
 -- the line of a period that uses more of a resource than it has
 abbrev pub over_line : Over → List ℕ
@@ -24,12 +28,12 @@ over_text overs = flat_map over_line overs
 
 -- the lines of a schedule
 abbrev pub schedule_text : JudgedView → List ℕ
-schedule_text v = codes "SCHEDULE " ++ (decimal v.count ++ (codes " " ++ (amount_text 15 v.npv ++ (10 ∷ (codes "BROKEN " ++ (decimal v.broken ++ (10 ∷ (breaks_text v.first ++ over_text v.over))))))))
+schedule_text v = codes "SCHEDULE " ++ (decimal v.count ++ (codes " " ++ (amount_text 15 v.npv ++ (10 ∷ (codes "BROKEN " ++ (decimal v.broken ++ (10 ∷ (pairs_text (codes "BREAKS") v.first ++ (early_text v.early v.first_early ++ over_text v.over)))))))))
 
--- whether no pair is broken, and nowhere is more used than there is
-abbrev pub is_clear : ℕ → List Over → Bool
-is_clear zero [] = true
-is_clear _ _ = false
+-- whether no pair is broken, none is too early, and nowhere is more used than there is
+abbrev pub is_clear : ℕ → ℕ → List Over → Bool
+is_clear zero zero [] = true
+is_clear _ _ _ = false
 
 -- the lines could not be written: for want of memory nothing was, and else a front of them
 abbrev pub LinesFail : Option (List ℕ) → Option (List ℕ) → List ℕ → EngineFault → Type 0

@@ -1,5 +1,5 @@
 -- The production that texts denote, and what a schedule of it comes to.
-use Rattle.std.specs.Prelude.{◌≡◌, ◌⊎◌, ℕ, ℤ, ◌+◌, ◌*◌, pos, ◌*ℤ◌, Bool, List, length, slice_index, None, Option, Result, Ok, Err}
+use Rattle.std.specs.Prelude.{◌≡◌, ◌⊎◌, ℕ, ℤ, ◌+◌, ◌*◌, pos, ◌*ℤ◌, Bool, List, ◌++◌, length, slice_index, None, Option, Result, Ok, Err}
 use Rattle.std.specs.Io.KnownBytes.{Appends, Keeps}
 use Rattle.fixed_worth.specs.Device.{ReceivedPrefix}
 use Rattle.prec_file.specs.Rests.{RestsView}
@@ -16,6 +16,7 @@ use Rattle.schedule_engines.specs.declared.schedule_fault.PlanFault.{PlanFault}
 use Rattle.schedule_engines.specs.declared.schedule_fault.PlanFault.TheVariants as plan
 use Rattle.schedule_engines.specs.PlanTexts.{PlanReadFails, ReadsPeriodsText, ReadsUses}
 use Rattle.schedule_engines.specs.ScheduleLines.{is_clear, schedule_text}
+use Rattle.schedule_engines.specs.Uses.{AreWaits}
 
 -- The production of the mine of n blocks that texts denote, over periods, where the columns of a text have what blocks use: a block is
 -- worth in a period what it is worth times what the period weighs, and a period has of a resource as many millionths as 10^6 times the
@@ -31,20 +32,23 @@ plan_of texts n p uses = record {
 }
 
 -- The texts denote a mine, its periods and a schedule of them, and it is told what this schedule comes to: the blocks that it digs, what
--- they are worth in their periods, of the mine's pairs, each taken once, those that it breaks, and where it uses more than there is.
+-- they are worth in their periods, of the mine's pairs, each taken once, those that it breaks, of the pairs of blocks that wait those that
+-- it digs too early, and where it uses more than there is.
 pub record IsScheduled (texts : MineTexts) (periods uses text : List ℕ) (v : JudgedView) : Type 0 where
   pub count : ℕ
   pub mine : DenoteMine texts count
   pub said : PeriodsView
   pub read : ReadsPeriodsText periods said
   pub uses_within : IsWithinLimit uses
-  pub uses_read : blocks.fault_of said.resources uses ≡ None
+  pub uses_read : blocks.fault_of (said.resources ++ said.waits) uses ≡ None
   pub uses_count : blocks.record_count_of uses ≡ count
   pub schedule_within : IsWithinLimit text
   pub schedule_read : schedule.fault_of count (length said.weights) text ≡ None
   pub pairs : List (ℕ × ℕ)
   pub are : ArePairsBy (rests_of texts) pairs
-  pub judged : IsJudged (plan_of texts count said uses) (schedule.schedule_of (length said.weights) text) pairs v
+  pub waits : RestsView
+  pub waiting : AreWaits count said.waits uses waits
+  pub judged : IsJudged (plan_of texts count said uses) (schedule.schedule_of (length said.weights) text) pairs said.lag waits.pairs v
 
 -- The texts denote a mine and its periods whose figures are too large, or too many.
 pub record FiguresLeave (texts : MineTexts) (periods uses : List ℕ) : Type 0 where
@@ -54,7 +58,8 @@ pub record FiguresLeave (texts : MineTexts) (periods uses : List ℕ) : Type 0 w
   pub said : PeriodsView
   pub read : ReadsPeriodsText periods said
   pub used : List ℕ
-  pub uses_read : ReadsUses rests.blocks said.resources uses used
+  pub lags : RestsView
+  pub uses_read : ReadsUses rests.blocks said.resources said.waits uses used lags
   pub leave : ¬ (AreFigures (figures_view nanos said.weights (length said.resources) used said.capacities))
 
 -- nothing is told of a schedule for want of memory, or where the figures are too large
@@ -83,5 +88,5 @@ WritesAtFault texts periods uses text old new _ = Keeps old new
 
 -- the answer, and what was written with it
 abbrev pub Writes : MineTexts → List ℕ → List ℕ → List ℕ → Option (List ℕ) → Option (List ℕ) → Result Bool PlanFault → Type 0
-Writes texts periods uses text old new (Ok feasible) = (v : JudgedView) × IsScheduled texts periods uses text v × (feasible ≡ is_clear v.broken v.over) × Appends old new (schedule_text v)
+Writes texts periods uses text old new (Ok feasible) = (v : JudgedView) × IsScheduled texts periods uses text v × (feasible ≡ is_clear v.broken v.early v.over) × Appends old new (schedule_text v)
 Writes texts periods uses text old new (Err fault) = PlanFails texts periods uses text fault × WritesAtFault texts periods uses text old new fault

@@ -3,8 +3,8 @@
 //! Stands on `mine_inputs`, which reads the texts of a mine and says what they denote, on
 //! `periods_file` and `schedule_file`, which read these texts, and on `production_figures` and `schedule_value`, which judge.
 //! Promises upward, over the bytes of the texts: what is written is how many blocks the schedule digs, what they are worth in
-//! their periods, which pairs of the mine it breaks, and where it uses more of a resource than there is; and it is answered
-//! whether the schedule is feasible. Other engines read periods, uses and schedules by the same calls, and tell a schedule in the same lines.
+//! their periods, which pairs of the mine it breaks, which blocks it digs too early after those for which they wait, and where
+//! it uses more of a resource than there is; and it is answered whether the schedule is feasible. Other engines read periods, uses and schedules by the same calls, and tell a schedule in the same lines.
 #![tactic(auto)]
 
 mod plan_read;
@@ -23,5 +23,5 @@ pub use schedule_inputs::{ScheduleInputs, periods_from, schedule_from};
 pub use schedule_judge::is_clear;
 pub use schedule_lines::text_of_schedule;
 pub use scheduling_engine::schedule_engine;
-pub use uses::uses_from;
+pub use uses::{Uses, uses_from};
 pub use weighed::Weighed;

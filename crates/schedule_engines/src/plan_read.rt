@@ -11,6 +11,7 @@ use crate::schedule_inputs::{ScheduleInputs, periods_from, schedule_from};
 use crate::uses::uses_from;
 use fixed_worth::{CountedRead, MOST_BLOCKS};
 use periods_file::Periods;
+use prec_file::Predecessors;
 use std::alloc::Global;
 
 /// What was read beside a mine.
@@ -20,6 +21,8 @@ pub(crate) struct PlanRead {
     pub periods: Periods,
     /// What blocks use, row by row for each resource.
     pub uses: Vec<u64>,
+    /// The pairs of a block and one for which it waits.
+    pub waits: Predecessors,
     /// The period of each block.
     pub schedule: Vec<u32>,
 }
@@ -45,14 +48,16 @@ pub(crate) fn plan_from<D: CountedRead>(
         → plan_failures beside.new D.failed ≡ plan_failures beside.old D.failed }
 {
     let periods = periods_from(alloc, &mut beside.periods)?;
-    let columns = periods.resources.as_slice();
-    let uses = uses_from(alloc, &mut beside.uses, columns, n)?;
+    let resources = periods.resources.as_slice();
+    let columns = periods.waits.as_slice();
+    let found = uses_from(alloc, &mut beside.uses, resources, columns, n)?;
     let weights = periods.weights.as_slice();
     let count = weights.len() as u32;
     let schedule = schedule_from(alloc, &mut beside.schedule, n, count)?;
     Ok(PlanRead {
         periods,
-        uses,
+        uses: found.amounts,
+        waits: found.waits,
         schedule,
     })
 }

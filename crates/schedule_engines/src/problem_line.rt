@@ -91,20 +91,23 @@ fn push_periods(line: &mut ShortLine, problem: PeriodsProblem)
         PeriodsProblem::InputTooLong => line.push(b"InputTooLong"),
         PeriodsProblem::Fault(fault) => push_fault(line, fault),
         PeriodsProblem::BlockCount => line.push(b"BlockCount"),
-        PeriodsProblem::NegativeUse(r, b) => push_use(line, r, b),
+        PeriodsProblem::NegativeUse(r, b) => push_cell(line, b"NegativeUse", r, b),
+        PeriodsProblem::UnknownWait(c, b) => push_cell(line, b"UnknownWait", c, b),
         PeriodsProblem::TooLarge => line.push(b"TooLarge"),
     }
 }
 
-// The resource and the block of a use that is negative.
-fn push_use(line: &mut ShortLine, r: u32, b: u32)
-    requires { length line.old ≤ 32 }
+// A name, and a column and a block in parentheses.
+fn push_cell(line: &mut ShortLine, name: &[u8], column: u32, b: u32)
+    requires room { length line.old ≤ 32 }
+    requires short { length name.now ≤ 16 }
     ensures text { line.new ≡ line.old
-        ++ (codes "NegativeUse(" ++ (decimal r ++ (codes ", " ++ (decimal b ++ codes ")")))) }
+        ++ (name.now ++ (codes "(" ++ (decimal column ++ (codes ", " ++ (decimal b ++ codes ")"))))) }
     ensures length { length line.new ≤ length line.old + 100 }
 {
-    line.push(b"NegativeUse(");
-    line.push_number(u128::from(r));
+    line.push(name);
+    line.push(b"(");
+    line.push_number(u128::from(column));
     line.push(b", ");
     line.push_number(u128::from(b));
     line.push(b")");

@@ -16,6 +16,8 @@ pub enum PeriodsProblem {
     BlockCount,
     /// A block's use of a resource is negative: the resource, and the block.
     NegativeUse(u32, u32),
+    /// What stands beside a block as that for which it waits is the number of no block: the column of these, and the block.
+    UnknownWait(u32, u32),
     /// A block is worth or costs more than 10^14 units.
     TooLarge,
 }

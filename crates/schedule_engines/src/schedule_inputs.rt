@@ -57,6 +57,7 @@ fn periods_in(alloc: Global, text: &[u8]) -> Result<Periods, PlanFault>
         (λ p. ReadsPeriodsText text.now (periods_view p))
         (PeriodsTextFails text.now) }
     ensures few { IfOk result (λ p. (length p.weights.items ≤ 1000) × (length p.resources.items ≤ 8)) }
+    ensures waits { IfOk result (λ p. (length p.waits.items ≤ 8) × (p.lag ≤ 1000)) }
     ensures no_device { ¬ IsErrOf result (plan.Engine engine.Device) }
 {
     match read_periods(alloc, text) {
@@ -76,6 +77,7 @@ pub fn periods_from<D: CountedRead>(alloc: Global, from: &mut D) -> Result<Perio
         (λ p. ReadsPeriodsText text (periods_view p))
         (PeriodsTextFails text)) }
     ensures few { IfOk result (λ p. (length p.weights.items ≤ 1000) × (length p.resources.items ≤ 8)) }
+    ensures waits { IfOk result (λ p. (length p.waits.items ≤ 8) × (p.lag ≤ 1000)) }
     ensures device { IsErrOf result (plan.Engine engine.Device)
         ↔ (D.failed from.new ≡ D.failed from.old + 1) }
     ensures kept { ¬ IsErrOf result (plan.Engine engine.Device)

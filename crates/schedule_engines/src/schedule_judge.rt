@@ -33,15 +33,18 @@ pub(crate) struct Planned {
     pub periods: Periods,
     /// What blocks use, row by row for each resource.
     pub uses: Vec<u64>,
+    /// The pairs of a block and one for which it waits.
+    pub waits: Predecessors,
     /// The period of each block.
     pub schedule: Vec<u32>,
 }
 
-/// Whether no pair is broken, and nowhere is more used than there is: exactly then a schedule is feasible.
+/// Whether no pair is broken, none is too early, and nowhere is more used than there is: exactly then a schedule is feasible and
+/// keeps its lag.
 pub fn is_clear(judged: &Judged) -> bool
-    ensures { result ≡ is_clear judged.now.broken.count judged.now.over.items }
+    ensures { result ≡ is_clear judged.now.broken.count judged.now.early.count judged.now.over.items }
 {
-    judged.broken.count == 0 && judged.over.is_empty()
+    judged.broken.count == 0 && judged.early.count == 0 && judged.over.is_empty()
 }
 
 // What a schedule comes to over a mine that was read.
@@ -50,7 +53,7 @@ fn judged_of(alloc: Global, planned: Planned) -> Result<Judged, PlanFault>
     ensures is { (texts : MineTexts) (periods uses schedule : List ℕ)
         → AreRead texts planned.nanos.items planned.predecessors
         → ReadsPeriodsText periods (periods_view planned.periods)
-        → ReadsUses planned.predecessors.blocks planned.periods.resources.items uses planned.uses.items
+        → ReadsUses planned.predecessors.blocks planned.periods.resources.items planned.periods.waits.items uses planned.uses.items planned.waits
         → ReadsScheduleText planned.predecessors.blocks (length planned.periods.weights.items) schedule planned.schedule.items
         → MatchResult result (λ j. IsScheduled texts periods uses schedule (judged_view j)) (NoJudgement texts periods uses) }
     ensures no_device { ¬ IsErrOf result (plan.Engine engine.Device) }
@@ -60,18 +63,22 @@ fn judged_of(alloc: Global, planned: Planned) -> Result<Judged, PlanFault>
         predecessors,
         periods,
         uses,
+        waits,
         schedule,
     } = planned;
     // the texts of a mine give as many worths as blocks, and the schedule a period for each
-    if nanos.len() != predecessors.len() as usize || schedule.len() != nanos.len() {
+    let count = predecessors.len();
+    if nanos.len() != count as usize || schedule.len() != nanos.len() || waits.len() != count {
         return Err(PlanFault::Engine(EngineFault::Model(NetFault::WrongLength)));
     }
     let resources = periods.resources.as_slice().len() as u32;
+    let lag = periods.lag;
     let Some(figures) = Figures::new(nanos, periods.weights, resources, uses, periods.capacities)
     else {
         return Err(PlanFault::Periods(PeriodsProblem::TooLarge));
     };
-    Ok(judge_schedule(alloc, &predecessors, &figures, schedule.as_slice())?)
+    let schedule = schedule.as_slice();
+    Ok(judge_schedule(alloc, &predecessors, &figures, schedule, &waits, lag)?)
 }
 
 /// Judges a schedule over a mine that was read, writes what it comes to, and answers whether it is feasible.
@@ -89,7 +96,7 @@ pub(crate) fn judge_planned<W: CountedWrite>(
     ensures answer { (texts : MineTexts) (periods uses schedule : List ℕ)
         → AreRead texts planned.nanos.items planned.predecessors
         → ReadsPeriodsText periods (periods_view planned.periods)
-        → ReadsUses planned.predecessors.blocks planned.periods.resources.items uses planned.uses.items
+        → ReadsUses planned.predecessors.blocks planned.periods.resources.items planned.periods.waits.items uses planned.uses.items planned.waits
         → ReadsScheduleText planned.predecessors.blocks (length planned.periods.weights.items) schedule planned.schedule.items
         → Writes texts periods uses schedule (W.contents out.old) (W.contents out.new) result }
     ensures device { IsErrOf result (plan.Engine engine.Device)

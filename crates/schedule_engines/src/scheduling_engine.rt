@@ -22,8 +22,9 @@ use std::thread::Threads;
 ///
 /// The first line is `SCHEDULE count npv`: how many blocks it digs, and what they are worth in their periods. Behind it comes
 /// `BROKEN pairs`, how many pairs of the mine have their predecessor later or never, with a line `BREAKS b p` for each of the
-/// first 20; and a line `OVER r t used capacity` for each period that uses more of a resource than it has. It answers
-/// whether no pair is broken and no line `OVER` comes, which is exactly where the schedule is feasible.
+/// first 20. Where blocks wait for others, and some are dug too early, `EARLY pairs` has how many, with a line `WAITS b a` for
+/// each of the first 20. A line `OVER r t used capacity` comes for each period that uses more of a resource than it has. It
+/// answers whether no pair is broken and no line `EARLY` or `OVER` comes, which is exactly where the schedule is feasible.
 ///
 /// The inputs are read in the order of the arguments, each to its end, and nothing is written before the answer is known.
 ///
@@ -64,6 +65,7 @@ pub fn schedule_engine<R: Threads + Sync, D: CountedRead, W: CountedWrite>(
     let PlanRead {
         periods,
         uses,
+        waits,
         schedule,
     } = plan_from(alloc, beside, mine.predecessors.len())?;
     let nanos = mine.worths.nanos_at(rt, alloc, factor)?;
@@ -75,6 +77,7 @@ pub fn schedule_engine<R: Threads + Sync, D: CountedRead, W: CountedWrite>(
             predecessors,
             periods,
             uses,
+            waits,
             schedule,
         },
         out,

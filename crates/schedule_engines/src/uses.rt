@@ -1,15 +1,27 @@
-//! Reads what blocks use of the resources: columns of a block model, of which no number may be negative.
+//! Reads what blocks use of the resources, and the blocks for which they wait: columns of a block model. No number of the former
+//! may be negative, and each of the latter is that of a block.
 
-ghost use Rattle.std.specs.Prelude.{◌≡◌, ◌+◌, ◌-◌, ◌^◌, ◌<◌, ◌≤◌, ◌↔◌, pos, ◌<ℤ◌, ◌++◌, ◌∷◌, [], length, IfSome, IsErrOf, MatchOption, MatchResult, OnOk};
+ghost use Rattle.std.specs.Prelude.{◌≡◌, ◌+◌, ◌-◌, ◌*◌, ◌/◌, ◌^◌, ◌<◌, ◌≤◌, ◌↔◌, pos, ◌<ℤ◌, unsigned_abs, ◌++◌, ◌∷◌, [], length, IfOk, IfSome, IsErrOf, MatchOption, MatchResult, OnOk};
 ghost use Rattle.mine_inputs.specs.declared.engine_fault.EngineFault.TheVariants as engine;
 ghost use Rattle.schedule_engines.specs.declared.schedule_fault.PlanFault.TheVariants as plan;
-ghost use Rattle.schedule_engines.specs.PlanTexts.{AreUses, ReadsUses, UsesFail, UsesWrong, use_in};
+ghost use Rattle.schedule_engines.specs.PlanTexts.{ReadsUses, UsesFail, UsesWrong};
+ghost use Rattle.schedule_engines.specs.Uses.{AreUses, HasWaits, IsBlock, use_in};
 
 use crate::schedule_fault::{PeriodsProblem, PlanFault};
 use blocks_file::BlockModel;
 use fixed_worth::{CountedRead, MOST_BLOCKS};
 use mine_inputs::blocks_from;
+use prec_file::{ListedPairs, Predecessors};
 use std::alloc::{AllocError, Global};
+
+/// What blocks use, and for which blocks they wait.
+#[derive(Drop)]
+pub struct Uses {
+    /// What each block uses of each resource in millionths, row by row.
+    pub amounts: Vec<u64>,
+    /// The pairs of a block and one for which it waits.
+    pub waits: Predecessors,
+}
 
 // What block b uses of resource r, in millionths; none where that is negative.
 fn use_of(model: &BlockModel, r: u32, b: u32) -> Option<u64>
@@ -35,19 +47,24 @@ fn push_use(uses: &mut Vec<u64>, amount: u64) -> Result<(), AllocError>
     Ok(())
 }
 
-// What the blocks of a model use of the resources in its columns, row by row.
-fn uses_of(alloc: Global, model: &BlockModel, n: u32) -> Result<Vec<u64>, PlanFault>
+// What the blocks of a model use of the resources in its first columns, row by row.
+fn amounts_of(
+    alloc: Global,
+    model: &BlockModel,
+    resources: u32,
+    n: u32,
+) -> Result<Vec<u64>, PlanFault>
     requires blocks { n ≤ MOST_BLOCKS }
+    requires same { model.now.blocks ≡ n }
+    requires few { resources ≤ 8 }
+    requires columns { resources ≤ length model.now.columns }
     ensures are { MatchResult result
-        (λ v. (model.now.blocks ≡ n) × AreUses model.now v.items)
-        (UsesWrong model.now n) }
+        (λ v. AreUses model.now resources v.items)
+        (UsesWrong model.now resources (length model.now.columns - resources) n) }
     ensures no_device { ¬ IsErrOf result (plan.Engine engine.Device) }
 {
-    if model.len() != n {
-        return Err(PlanFault::Periods(PeriodsProblem::BlockCount));
-    }
     let mut uses: Vec<u64> = Vec::new(alloc);
-    for i in 0..model.columns() * n {
+    for i in 0..resources * n {
         match use_of(model, i / n, i % n) {
             Some(amount) => push_use(&mut uses, amount)?,
             None => {
@@ -59,28 +76,127 @@ fn uses_of(alloc: Global, model: &BlockModel, n: u32) -> Result<Vec<u64>, PlanFa
     Ok(uses)
 }
 
-/// What the n blocks of a text use of the resources in these columns, at most 8, row by row.
+// The block whose number, in millionths, this is; none where it is that of none of n blocks.
+fn block_of(number: i64, n: u32) -> Option<u32>
+    ensures { MatchOption result
+        (¬ (IsBlock n number))
+        (λ a. (a < n) × (number ≡ pos (a * 1000000)) × (a ≡ unsigned_abs number / 1000000)) }
+{
+    if number < 0 {
+        return None;
+    }
+    let size = number as u64;
+    let a = size / 1_000_000;
+    if a * 1_000_000 != size || a >= n as u64 {
+        return None;
+    }
+    Some(a as u32)
+}
+
+// Adds a pair of a block that waits.
+fn push_wait(pairs: &mut Vec<(u32, u32)>, pair: (u32, u32)) -> Result<(), AllocError>
+    ensures { OnOk result (pairs.new.items ≡ pairs.old.items ++ pair ∷ []) }
+{
+    pairs.push(pair)?;
+    Ok(())
+}
+
+// The pairs that so many columns behind the first ones list.
+fn waits_of(
+    alloc: Global,
+    model: &BlockModel,
+    first: u32,
+    count: u32,
+    n: u32,
+) -> Result<Predecessors, PlanFault>
+    requires blocks { n ≤ MOST_BLOCKS }
+    requires same { model.now.blocks ≡ n }
+    requires behind { first ≤ 8 }
+    requires few { count ≤ 8 }
+    requires columns { length model.now.columns ≡ first + count }
+    ensures are { MatchResult result
+        (HasWaits model.now first count)
+        (UsesWrong model.now first count n) }
+    ensures no_device { ¬ IsErrOf result (plan.Engine engine.Device) }
+{
+    let mut pairs: Vec<(u32, u32)> = Vec::new(alloc);
+    for i in 0..count * n {
+        let number = model.column(first + i / n, i % n).get();
+        match block_of(number, n) {
+            Some(a) => push_wait(&mut pairs, (i % n, a))?,
+            None => {
+                let fault = PeriodsProblem::UnknownWait(i / n, i % n);
+                return Err(PlanFault::Periods(fault));
+            }
+        }
+    }
+    Ok(ListedPairs::of(n, pairs).into_predecessors(alloc)?)
+}
+
+// What the blocks of a model use and for which they wait, by so many columns of each.
+fn uses_in(
+    alloc: Global,
+    model: &BlockModel,
+    resources: u32,
+    waits: u32,
+    n: u32,
+) -> Result<Uses, PlanFault>
+    requires blocks { n ≤ MOST_BLOCKS }
+    requires few { resources ≤ 8 }
+    requires few_waits { waits ≤ 8 }
+    requires columns { length model.now.columns ≡ resources + waits }
+    ensures are { MatchResult result
+        (λ u. (model.now.blocks ≡ n) × AreUses model.now resources u.amounts.items
+        × HasWaits model.now resources waits u.waits)
+        (UsesWrong model.now resources waits n) }
+    ensures no_device { ¬ IsErrOf result (plan.Engine engine.Device) }
+{
+    if model.len() != n {
+        return Err(PlanFault::Periods(PeriodsProblem::BlockCount));
+    }
+    let amounts = amounts_of(alloc, model, resources, n)?;
+    let waits = waits_of(alloc, model, resources, waits, n)?;
+    Ok(Uses { amounts, waits })
+}
+
+// The columns of resources, and behind them those of the blocks for which blocks wait.
+fn all_columns(alloc: Global, resources: &[u32], waits: &[u32]) -> Result<Vec<u32>, AllocError>
+    ensures { IfOk result (λ v. v.items ≡ resources.now ++ waits.now) }
+{
+    let mut columns: Vec<u32> = Vec::new(alloc);
+    columns.extend_from_slice(resources)?;
+    columns.extend_from_slice(waits)?;
+    Ok(columns)
+}
+
+/// What the n blocks of a text use of the resources in these columns, at most 8, row by row; and for which blocks they wait by
+/// others, at most 8 too.
 ///
 /// # Errors
-/// `Blocks` for a fault of the text; `Periods` where it has another number of blocks, or a use is negative. `Memory` where
-/// memory is refused, `Device` where a read fails.
+/// `Blocks` for a fault of the text; `Periods` where it has another number of blocks, a use is negative, or what a block waits
+/// for is no block. `Memory` where memory is refused, `Device` where a read fails.
 pub fn uses_from<D: CountedRead>(
     alloc: Global,
     from: &mut D,
-    columns: &[u32],
+    resources: &[u32],
+    waits: &[u32],
     n: u32,
-) -> Result<Vec<u64>, PlanFault>
-    requires few { length columns.now ≤ 8 }
+) -> Result<Uses, PlanFault>
+    requires few { length resources.now ≤ 8 }
+    requires few_waits { length waits.now ≤ 8 }
     requires blocks { n ≤ MOST_BLOCKS }
     requires room { D.failed from.old < 2 ^ 64 - 1 }
     ensures read { IfSome (D.remaining from.old) (λ text. MatchResult result
-        (λ v. ReadsUses n columns.now text v.items)
-        (UsesFail n columns.now text)) }
+        (λ u. ReadsUses n resources.now waits.now text u.amounts.items u.waits)
+        (UsesFail n resources.now waits.now text)) }
+    ensures size { IfOk result (λ u. u.waits.blocks ≡ n) }
     ensures device { IsErrOf result (plan.Engine engine.Device)
         ↔ (D.failed from.new ≡ D.failed from.old + 1) }
     ensures kept { ¬ IsErrOf result (plan.Engine engine.Device)
         → D.failed from.new ≡ D.failed from.old }
 {
-    let model = blocks_from(alloc, from, columns)?;
-    uses_of(alloc, &model, n)
+    let columns = all_columns(alloc, resources, waits)?;
+    let model = blocks_from(alloc, from, columns.as_slice())?;
+    let first = resources.len() as u32;
+    uses_in(alloc, &model, first, waits.len() as u32, n)
 }

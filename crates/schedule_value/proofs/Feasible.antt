@@ -5,7 +5,7 @@ use Rattle.prec_file.specs.Rests.{has_pair}
 use Rattle.prec_file.proofs.Pairs.{rests_of_pair, pair_of_rests}
 use Rattle.schedules.specs.Prelude.{Production, KeepsPrecedence, IsFeasible, used_in}
 use Rattle.schedule_value.specs.declared.usage.Over.{Over}
-use Rattle.schedule_value.specs.Prelude.{breaks, broken_pairs, is_over, over_at, over_if, overs_in_row, overs_in_rows}
+use Rattle.schedule_value.specs.Prelude.{KeepsLags, breaks, broken_pairs, is_over, over_at, over_if, overs_in_row, overs_in_rows}
 
 -- ---- pairs
 
@@ -88,26 +88,53 @@ module _ (plan : Production) (schedule : ℕ → ℕ) where
 -- ---- feasible
 
 module _ (plan : Production) (pairs : List (ℕ × ℕ)) (rests : (b p : ℕ) → plan.mine.rests b p ≡ has_pair pairs b p) (schedule : ℕ → ℕ) where
-  feasible_from : length (broken_pairs schedule plan.periods pairs) ≡ 0 → overs_in_rows plan schedule plan.resources ≡ [] → IsFeasible plan schedule
+  feasible_from : length (broken_pairs 0 schedule plan.periods pairs) ≡ 0 → overs_in_rows plan schedule plan.resources ≡ [] → IsFeasible plan schedule
   feasible_from none low = record {
     precedence = record {
       earlier = λ b p r l.
           let c = pair_of_rests pairs b p (sym (rests b p) ∙ r) in
-          kept (schedule b) (schedule p) plan.periods (none_pass (breaks schedule plan.periods) pairs none (b, p) c) l;
+          let low : 0 + schedule p ≤ schedule b = kept (schedule b) (0 + schedule p) plan.periods (none_pass (breaks 0 schedule plan.periods) pairs none (b, p) c) l in
+          omega (arith, low);
     };
     capacities = λ r t k l. not_over (plan.capacity r t) (used_in plan schedule r t) (none_in_row plan schedule r plan.periods (none_in_rows plan schedule plan.resources low r k) t l);
   }
 
-  broken_from : KeepsPrecedence plan schedule → length (broken_pairs schedule plan.periods pairs) ≡ 0
-  broken_from keeps = none_left (breaks schedule plan.periods) pairs (λ q c t.
-      let x = and_parts (nat_lt (schedule q.0) plan.periods) (nat_lt (schedule q.0) (schedule q.1)) t in
+  broken_from : KeepsPrecedence plan schedule → length (broken_pairs 0 schedule plan.periods pairs) ≡ 0
+  broken_from keeps = none_left (breaks 0 schedule plan.periods) pairs (λ q c t.
+      let x = and_parts (nat_lt (schedule q.0) plan.periods) (nat_lt (schedule q.0) (0 + schedule q.1)) t in
       let l = ltb-true (schedule q.0) plan.periods x.0 in
-      let m = ltb-true (schedule q.0) (schedule q.1) x.1 in
+      let m = ltb-true (schedule q.0) (0 + schedule q.1) x.1 in
       let before = keeps.earlier q.0 q.1 (rests q.0 q.1 ∙ rests_of_pair pairs q.0 q.1 c) l in
       omega (arith, m, before))
 
   over_from : IsFeasible plan schedule → overs_in_rows plan schedule plan.resources ≡ []
   over_from h = rows_none plan schedule plan.resources (λ r k. row_none plan schedule r plan.periods (λ t l. over_not (plan.capacity r t) (used_in plan schedule r t) (h.capacities r t k l)))
 
-  pub feasible_iff : ((length (broken_pairs schedule plan.periods pairs) ≡ 0) × (overs_in_rows plan schedule plan.resources ≡ [])) ↔ IsFeasible plan schedule
+  pub feasible_iff : ((length (broken_pairs 0 schedule plan.periods pairs) ≡ 0) × (overs_in_rows plan schedule plan.resources ≡ [])) ↔ IsFeasible plan schedule
   feasible_iff = (λ x. feasible_from x.0 x.1, λ h. (broken_from h.precedence, over_from h))
+
+-- ---- with blocks that wait
+
+-- no pair is too early exactly where the lag is kept
+module _ (periods lag : ℕ) (waits : List (ℕ × ℕ)) (schedule : ℕ → ℕ) where
+  lags_from : length (broken_pairs lag schedule periods waits) ≡ 0 → KeepsLags periods lag (has_pair waits) schedule
+  lags_from none = record {
+    later = λ b a w l.
+        let c = pair_of_rests waits b a w in
+        kept (schedule b) (lag + schedule a) periods (none_pass (breaks lag schedule periods) waits none (b, a) c) l;
+  }
+
+  early_from : KeepsLags periods lag (has_pair waits) schedule → length (broken_pairs lag schedule periods waits) ≡ 0
+  early_from keeps = none_left (breaks lag schedule periods) waits (λ q c t.
+      let x = and_parts (nat_lt (schedule q.0) periods) (nat_lt (schedule q.0) (lag + schedule q.1)) t in
+      let l = ltb-true (schedule q.0) periods x.0 in
+      let m = ltb-true (schedule q.0) (lag + schedule q.1) x.1 in
+      let before = keeps.later q.0 q.1 (rests_of_pair waits q.0 q.1 c) l in
+      omega (arith, m, before))
+
+pub lagged_iff : (plan : Production) (pairs : List (ℕ × ℕ)) → ((b p : ℕ) → plan.mine.rests b p ≡ has_pair pairs b p) → (schedule : ℕ → ℕ) (lag : ℕ) (waits : List (ℕ × ℕ))
+    → ((length (broken_pairs 0 schedule plan.periods pairs) ≡ 0) × (length (broken_pairs lag schedule plan.periods waits) ≡ 0) × (overs_in_rows plan schedule plan.resources ≡ []))
+    ↔ (IsFeasible plan schedule × KeepsLags plan.periods lag (has_pair waits) schedule)
+lagged_iff plan pairs rests schedule lag waits =
+    let iff = feasible_iff plan pairs rests schedule in
+    (λ x. (iff.0 (x.0, x.2), lags_from plan.periods lag waits schedule x.1), λ h. let x = iff.1 h.0 in (x.0, early_from plan.periods lag waits schedule h.1, x.1))

@@ -22,12 +22,15 @@ pub struct Judged {
     pub npv: i128,
     /// The pairs that it breaks.
     pub broken: BrokenPairs,
+    /// The pairs of a block that waits for another, and that it digs too early.
+    pub early: BrokenPairs,
     /// Where it uses more of a resource than there is, by resource and then by period.
     pub over: Vec<Over>,
 }
 
-/// Judges a schedule, which lists the period of each block: a block whose number isn't that of a period isn't dug. It is
-/// feasible exactly where no pair is broken and nowhere is more used than there is.
+/// Judges a schedule, which lists the period of each block: a block whose number isn't that of a period isn't dug. By the pairs
+/// of `waits` a block waits so many periods for another. The schedule is feasible and keeps that lag exactly where no pair is
+/// broken, none is too early and nowhere is more used than there is.
 ///
 /// # Errors
 /// Memory was refused.
@@ -36,14 +39,18 @@ pub fn judge_schedule(
     predecessors: &Predecessors,
     figures: &Figures,
     schedule: &[u32],
+    waits: &Predecessors,
+    lag: u32,
 ) -> Result<Judged, AllocError>
     requires blocks { predecessors.now.blocks ≡ length figures.now.worths }
     requires all { length schedule.now ≡ length figures.now.worths }
+    requires waits { waits.now.blocks ≡ length figures.now.worths }
     ensures { IfOk result (λ j. IsJudged (production_of predecessors.now.pairs figures.now)
-        (period_by schedule.now) predecessors.now.pairs (judged_view j)) }
+        (period_by schedule.now) predecessors.now.pairs lag waits.now.pairs (judged_view j)) }
 {
     let periods = figures.periods();
-    let broken = broken_pairs_of(alloc, schedule, periods, predecessors)?;
+    let broken = broken_pairs_of(alloc, schedule, periods, 0, predecessors)?;
+    let early = broken_pairs_of(alloc, schedule, periods, lag, waits)?;
     let over = overs_of(alloc, figures, schedule)?;
     let count = count_dug(schedule, periods);
     let npv = npv_at(figures, schedule);
@@ -51,6 +58,7 @@ pub fn judge_schedule(
         count,
         npv,
         broken,
+        early,
         over,
     })
 }

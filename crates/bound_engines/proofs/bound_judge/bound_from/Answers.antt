@@ -1,4 +1,4 @@
-use Rattle.fixed_worth.proofs.Common.{◌≡◌, ℕ, List, IfOk}
+use Rattle.fixed_worth.proofs.Common.{ℕ, List, IfOk}
 use Rattle.mine_inputs.specs.Prelude.{AreRead, IsMineRead, MineTexts}
 use Rattle.mine_inputs.proofs.MineDevices.{under}
 use Rattle.periods_file.specs.Periods.{periods_view}
@@ -16,8 +16,8 @@ returns-in-Ok-clause-told g c =
     let q = c.in-Ok.planned in
     let e = c.in-Ok.ensures.beside in
     under (g.C.Read.remaining c.args.stream.now.lines.from) (λ text. (texts : MineTexts) → IsMineRead texts (factor_in text) w r → AreRead texts q.nanos.items r)
-    (λ text. (texts : MineTexts) (p u : List ℕ) → IsMineRead texts (factor_in text) w r → ReadsPeriodsText p (periods_view b.periods) → ReadsUses r.blocks b.periods.resources.items u b.uses.items → IfOk c.bound_behind.result (IsToldOf texts p u))
+    (λ text. (texts : MineTexts) (p u : List ℕ) → IsMineRead texts (factor_in text) w r → ReadsPeriodsText p (periods_view b.periods) → ReadsUses r.blocks b.periods.resources.items b.periods.waits.items u b.uses.items b.waits → IfOk c.bound_behind.result (IsToldOf texts p u))
     c.in-Ok.ensures.mine
     (λ text reads texts p u read said used.
-    let t = planned_texts texts p u q.nanos.items q.predecessors r (periods_view q.periods) (periods_view b.periods) q.uses.items b.uses.items e.0 e.1 e.2 (reads texts read) said used in
+    let t = planned_texts texts p u q.nanos.items q.predecessors r (periods_view q.periods) (periods_view b.periods) q.uses.items b.uses.items q.waits b.waits e.0 e.1 e.2 e.3 (reads texts read) said used in
     c.bound_behind.ensures.told texts p u t.0 t.1 t.2)

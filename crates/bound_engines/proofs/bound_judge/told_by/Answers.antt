@@ -9,14 +9,14 @@ use Rattle.bound_engines.proofs.Bounded.{bounded_for}
 use Rattle.bound_engines.proofs.bound_judge.told_by.Goals as goal
 
 pub returns-in-Some-clause-told : goal.returns-in-Some-clause-told
-returns-in-Some-clause-told g c = λ texts p u nanos rests said used read pr ur x.
+returns-in-Some-clause-told g c = λ texts p u nanos rests said used lags read pr ur x.
     let e = c.args.expanded in
     let fits : SFits w128 c.in-Some.bound = search rules in
     let P : NodesJudged → Type 0 = λ j. IsJudgedOf e.pairs c.as_slice.result.now j in
-    let Q : ℤ → Type 0 = λ z. IsToldFor texts p u rests.blocks said (told.Bound z) in
+    let Q : ℤ → Type 0 = λ z. IsToldFor texts p u rests.blocks said lags (told.Bound z) in
     let worth_fits : SFits w128 c.in-Richest.worth = search rules in
     let listed = c.as_slice-in-Richest.result.now in
     let exact = c.in-Some.ensures.exact rests.pairs ∙ ap (λ (z : ℤ). z +ℤ price_of_capacities (production_of rests.pairs e.figures) (price_by e.figures listed)) (to_z-of_z w128 c.in-Richest.worth worth_fits) in
     subst Q (sym (to_z-of_z w128 c.in-Some.bound fits))
-    (bounded_for texts p u nanos rests said used e.prices.items read pr ur e.figures e.pairs e.worths.items x
+    (bounded_for texts p u nanos rests said used e.prices.items lags read pr ur e.figures e.pairs e.worths.items x
     c.as_slice-in-Richest.result.now c.as_slice-in-Richest.ensures.value c.as_slice.result.now c.as_slice.ensures.value c.in-Richest.worth c.in-Some.bound (subst P c.in-Richest.is c.in-Ok.ensures.is) exact)

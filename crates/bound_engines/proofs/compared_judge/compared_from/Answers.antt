@@ -1,8 +1,7 @@
-use Rattle.std.proofs.Common.{◌≡◌, ℕ, List, length, IfOk, sym, subst}
+use Rattle.std.proofs.Common.{ℕ, List, length, IfOk}
 use Rattle.mine_inputs.specs.Prelude.{AreRead, IsMineRead, MineTexts}
 use Rattle.mine_inputs.proofs.MineDevices.{under}
-use Rattle.periods_file.specs.Periods.{PeriodsView, periods_view}
-use Rattle.prec_file.specs.Rests.{RestsView}
+use Rattle.periods_file.specs.Periods.{periods_view}
 use Rattle.engines.specs.Prelude.{factor_in}
 use Rattle.schedule_value.specs.Judging.{judged_view}
 use Rattle.schedule_engines.specs.Prelude.{ReadsPeriodsText, ReadsScheduleText, ReadsUses}
@@ -19,10 +18,10 @@ returns-in-Ok-clause-told g c =
     let q = c.in-Ok.planned in
     let e = c.in-Ok.ensures.beside in
     under (g.C.Read.remaining c.args.stream.now.lines.from) (λ text. (texts : MineTexts) → IsMineRead texts (factor_in text) w r → AreRead texts q.nanos.items r)
-    (λ text. (texts : MineTexts) (p u s : List ℕ) → IsMineRead texts (factor_in text) w r → ReadsPeriodsText p (periods_view b.periods) → ReadsUses r.blocks b.periods.resources.items u b.uses.items
+    (λ text. (texts : MineTexts) (p u s : List ℕ) → IsMineRead texts (factor_in text) w r → ReadsPeriodsText p (periods_view b.periods) → ReadsUses r.blocks b.periods.resources.items b.periods.waits.items u b.uses.items b.waits
     → ReadsScheduleText r.blocks (length b.periods.weights.items) s l → IfOk c.compared_behind.result (λ x. IsCompared texts p u s (judged_view x.judged) x.told))
     c.in-Ok.ensures.mine
     (λ text reads texts p u s read said used sched.
-    let t = planned_texts texts p u q.nanos.items q.predecessors r (periods_view q.periods) (periods_view b.periods) q.uses.items b.uses.items e.0 e.1 e.2 (reads texts read) said used in
+    let t = planned_texts texts p u q.nanos.items q.predecessors r (periods_view q.periods) (periods_view b.periods) q.uses.items b.uses.items q.waits b.waits e.0 e.1 e.2 e.3 (reads texts read) said used in
     let k = planned_schedule s q.predecessors r (periods_view q.periods) (periods_view b.periods) c.as_slice.result.now l e.0 e.1 c.as_slice.ensures.value sched in
     c.compared_behind.ensures.told texts p u s t.0 t.1 t.2 k)

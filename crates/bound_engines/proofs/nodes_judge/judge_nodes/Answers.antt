@@ -1,7 +1,6 @@
-use Rattle.fixed_worth.proofs.Common.{rules, ◌≡◌, ◌∙◌, ℤ, List, arith, ints, sym, ap, SFits, w128, map}
-use Rattle.ordered_group.specs.Prelude.{worth_block}
-use Rattle.closure_net.specs.Prelude.{NetView, holds_of, net_view}
-use Rattle.bound_engines.proofs.Bounded.{refusal_told, richest_told, worth_told_by}
+use Rattle.fixed_worth.proofs.Common.{rules, arith, ints, SFits, w128}
+use Rattle.closure_net.specs.Prelude.{holds_of}
+use Rattle.bound_engines.proofs.Bounded.{richest_told, worth_told_by}
 use Rattle.bound_engines.proofs.nodes_judge.judge_nodes.Goals as goal
 
 pub returns-in-Ok-check_graph-clause-is : goal.returns-in-Ok-check_graph-clause-is

@@ -22,7 +22,7 @@ returns-in-Ok-expanded_of-clause-answer g c = λ texts p u read said used.
     let old = g.W.Write.contents c.args.out.now in
     let new = g.W.Write.contents c.solve_nodes.new.out in
     let are = read_as texts (nanos_at worths asked.factor) c.in-Ok.nanos.items rests c.in-Ok.ensures read.0 in
-    let by = net_of_plan texts p u c.in-Ok.nanos.items rests (periods_view beside.periods) beside.uses.items nodes.prices.items are said used nodes.figures nodes.pairs nodes.worths.items c.in-Ok-expanded_of.ensures.is in
+    let by = net_of_plan texts p u c.in-Ok.nanos.items rests (periods_view beside.periods) beside.uses.items nodes.prices.items beside.waits are said used nodes.figures nodes.pairs nodes.worths.items c.in-Ok-expanded_of.ensures.is in
     let P : Price → Type 0 = λ k. SolvesNodes k nodes.pairs nodes.worths.items asked.effort.method asked.effort.steps old new c.solve_nodes.result in
     solved texts p u asked.effort.method asked.effort.steps nodes.pairs nodes.worths.items by old new c.solve_nodes.result (subst P (c.price_at-price.ensures.is ∙ read.1) c.solve_nodes.ensures.answer)
 

@@ -1,4 +1,4 @@
-use Rattle.fixed_worth.proofs.Common.{◌≡◌, ◌<◌, ◌%◌, ℕ, List, length, get_or, ap, ◌∙◌, arith, get_or_default, div-add-mod', IfOk-weaker}
+use Rattle.fixed_worth.proofs.Common.{rules, ◌≡◌, ◌<◌, ◌%◌, ℕ, List, length, get_or, ap, ◌∙◌, arith, get_or_default, div-add-mod', IfOk-weaker}
 use Rattle.prec_file.specs.Rests.{above_of}
 use Rattle.sub_mines.proofs.Rows.{above_known}
 use Rattle.expanded_mine.proofs.Rows.{row_made}
@@ -17,4 +17,4 @@ add_above-requires-clause-known c = λ k d l.
     omega (arith, same, low, split, few, c.requires.few, c.requires.node)
 
 pub returns : goal.returns
-returns c = IfOk-weaker c.add_next.result _ _ (λ x h. (row_made c.args.predecessors.now.blocks c.args.periods c.args.predecessors.now.pairs c.args.node c.len-blocks.result c.above.result.now c.add_above.new.row.items c.add_next.new.row.items c.len-blocks.ensures.is c.above.ensures c.in_ok-add_above.ensures.0 h.0, h.1)) c.add_next.ensures
+returns c = IfOk-weaker c.add_next.result _ _ (λ x h. (row_made c.args.predecessors.now.blocks c.args.periods c.args.predecessors.now.pairs c.args.node c.len-blocks.result c.above.result.now _ c.add_above.new.row.items c.add_next.new.row.items c.len-blocks.ensures.is c.above.ensures (search rules) c.in_ok-add_above.ensures.0 h.0, h.1)) c.add_next.ensures

@@ -11,12 +11,12 @@ returns-in_err-periods-clause-read g c =
     rw (p.1, p.2)
     (periods_failed (g.D.Read.remaining b.periods) (g.D.Read.remaining b.uses) (g.D.Read.remaining b.schedule) c.args.n c.in_err-periods.field-0.0 c.in_err-periods.ensures.read)
 
-pub returns-in_err-uses-clause-read : goal.returns-in_err-uses-clause-read
-returns-in_err-uses-clause-read g c =
+pub returns-in_err-found-clause-read : goal.returns-in_err-found-clause-read
+returns-in_err-found-clause-read g c =
     let b = c.args.beside.now in
-    let p = err_from_is_err_and c.from_residual-in_err-uses.result c.from_residual-in_err-uses.ensures.1 in
+    let p = err_from_is_err_and c.from_residual-in_err-found.result c.from_residual-in_err-found.ensures.1 in
     rw (p.1, p.2)
-    (uses_failed (g.D.Read.remaining b.periods) (g.D.Read.remaining b.uses) (g.D.Read.remaining b.schedule) c.args.n (periods_view c.in_ok-periods.periods) c.in_ok-periods.ensures.read c.in_err-uses.field-0.0 c.as_slice-columns.result.now c.as_slice-columns.ensures.value c.in_err-uses.ensures.read)
+    (uses_failed (g.D.Read.remaining b.periods) (g.D.Read.remaining b.uses) (g.D.Read.remaining b.schedule) c.args.n (periods_view c.in_ok-periods.periods) c.in_ok-periods.ensures.read c.in_err-found.field-0.0 c.as_slice-resources.result.now c.as_slice-columns.result.now c.as_slice-resources.ensures.value c.as_slice-columns.ensures.value c.in_err-found.ensures.read)
 
 pub returns-in_err-schedule-clause-read : goal.returns-in_err-schedule-clause-read
 returns-in_err-schedule-clause-read g c =
@@ -28,4 +28,4 @@ returns-in_err-schedule-clause-read g c =
 pub returns-clause-read : goal.returns-clause-read
 returns-clause-read g c =
     let b = c.args.beside.now in
-    all_read (g.D.Read.remaining b.periods) (g.D.Read.remaining b.uses) (g.D.Read.remaining b.schedule) c.args.n (periods_view c.in_ok-periods.periods) c.in_ok-periods.ensures.read c.as_slice-columns.result.now c.in_ok-uses.uses.items c.in_ok-schedule.schedule.items (length c.as_slice-weights.result.now) c.as_slice-columns.ensures.value (ap length c.as_slice-weights.ensures.value) c.in_ok-uses.ensures.read c.in_ok-schedule.ensures.read
+    all_read (g.D.Read.remaining b.periods) (g.D.Read.remaining b.uses) (g.D.Read.remaining b.schedule) c.args.n (periods_view c.in_ok-periods.periods) c.in_ok-periods.ensures.read c.as_slice-resources.result.now c.as_slice-columns.result.now c.in_ok-found.found.amounts.items c.in_ok-schedule.schedule.items c.in_ok-found.found.waits (length c.as_slice-weights.result.now) c.as_slice-resources.ensures.value c.as_slice-columns.ensures.value (ap length c.as_slice-weights.ensures.value) c.in_ok-found.ensures.read c.in_ok-schedule.ensures.read

@@ -30,5 +30,5 @@ returns-clause-answer g c =
     let b = c.args.beside.now in
     let mine = c.in_ok-mine.mine in
     let r = c.in_ok-periods.field-0 in
-    schedule_answer c.args.inputs.now g.D.Read.remaining c.args.factor (g.D.Read.remaining b.periods) (g.D.Read.remaining b.uses) (g.D.Read.remaining b.schedule) mine.worths mine.predecessors c.len.result c.len.ensures.is c.in_ok-mine.ensures.read c.in_ok-nanos.nanos.items (periods_view r.periods) r.uses.items r.schedule.items
+    schedule_answer c.args.inputs.now g.D.Read.remaining c.args.factor (g.D.Read.remaining b.periods) (g.D.Read.remaining b.uses) (g.D.Read.remaining b.schedule) mine.worths mine.predecessors c.len.result c.len.ensures.is c.in_ok-mine.ensures.read c.in_ok-nanos.nanos.items (periods_view r.periods) r.uses.items r.schedule.items r.waits
     (g.W.Write.contents c.args.out.now) (g.W.Write.contents c.judge_planned.new.out) c.judge_planned.result c.in_ok-nanos.ensures c.in_ok-periods.ensures.read c.judge_planned.ensures.answer

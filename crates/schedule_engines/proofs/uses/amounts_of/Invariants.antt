@@ -1,6 +1,6 @@
 use Rattle.fixed_worth.proofs.Common.{◌≡◌, ℕ, ◌/◌, ◌%◌, ◌<◌, pos, length, slice_index}
-use Rattle.schedule_engines.specs.PlanTexts.{use_in}
-use Rattle.schedule_engines.proofs.uses.uses_of.Given as goal
+use Rattle.schedule_engines.specs.Uses.{use_in}
+use Rattle.schedule_engines.proofs.uses.amounts_of.Given as goal
 
 abbrev pub invariant-loop-i : goal.invariant-loop-i
 invariant-loop-i l = record {

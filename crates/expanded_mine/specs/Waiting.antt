@@ -1,0 +1,43 @@
+-- The expanded mine where blocks wait so many periods for others.
+use Rattle.std.specs.Prelude.{ℕ, ◌+◌, ◌-◌, ◌*◌, ◌/◌, ◌%◌, ℤ, pos, ◌-ℤ◌, Bool, cond, ◌&&◌, ◌||◌, ◌==◌, nat_lt, List, [], ◌++◌, map}
+use Rattle.std.specs.List.{list_any}
+use Rattle.prec_file.specs.Rests.{has_pair, above_of}
+use Rattle.closure_net.specs.Mine.{Mine}
+use Rattle.schedules.specs.Prelude.{Production, expanded, rests_by_period}
+use Rattle.expanded_mine.specs.Nodes.{row_of}
+
+-- Node i rests on node j where its block waits for the other's, and its period is so many behind the other's.
+abbrev pub rests_by_wait : (n periods lag : ℕ) → List (ℕ × ℕ) → ℕ → ℕ → Bool
+rests_by_wait n periods lag waits i j = nat_lt i (periods * n) && (i / n == lag + j / n && has_pair waits (i % n) (j % n))
+
+-- who rests on whom: as in the expanded mine, and by these waits
+abbrev pub node_rests : (n periods lag : ℕ) → (waits pairs : List (ℕ × ℕ)) → ℕ → ℕ → Bool
+node_rests n periods lag waits pairs i j = rests_by_period n periods (has_pair pairs) i j || rests_by_wait n periods lag waits i j
+
+-- Whether the block of node i waits for another, so that it isn't dug by the end of a period as early as the node's.
+abbrev pub is_early : (n lag : ℕ) → List (ℕ × ℕ) → ℕ → Bool
+is_early n lag waits i = nat_lt (i / n) lag && list_any (λ q. q.0 == i % n) waits
+
+-- What such a node is worth less: 10^15 units, so that no pit gains by it.
+abbrev pub withheld : Bool → ℤ
+withheld early = cond early (pos 1000000000000000000000000000000) (pos 0)
+
+-- a mine of nodes, with these waits
+abbrev pub with_waits : (n periods lag : ℕ) → List (ℕ × ℕ) → Mine → Mine
+with_waits n periods lag waits mine = record {
+  blocks = mine.blocks;
+  rests = λ i j. mine.rests i j || rests_by_wait n periods lag waits i j;
+  worth = λ i. mine.worth i -ℤ withheld (is_early n lag waits i);
+}
+
+-- the expanded mine of a production in which blocks wait so many periods for others
+abbrev pub waiting_mine : Production → (price : ℕ → ℕ → ℕ) → (lag : ℕ) → List (ℕ × ℕ) → Mine
+waiting_mine plan price lag waits = with_waits plan.mine.blocks plan.periods lag waits (expanded plan price)
+
+-- the pairs of node i with those for which its block waits, which are there from period lag on
+abbrev pub wait_row : (n lag : ℕ) → List (ℕ × ℕ) → ℕ → List (ℕ × ℕ)
+wait_row n lag waits i = cond (nat_lt (i / n) lag) [] (map (λ a. (i, (i / n - lag) * n + a)) (above_of waits (i % n)))
+
+-- all pairs of node i
+abbrev pub whole_row : (n periods lag : ℕ) → (waits pairs : List (ℕ × ℕ)) → ℕ → List (ℕ × ℕ)
+whole_row n periods lag waits pairs i = row_of n periods pairs i ++ wait_row n lag waits i

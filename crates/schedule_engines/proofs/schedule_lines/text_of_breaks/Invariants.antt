@@ -1,6 +1,0 @@
-use Rattle.fixed_worth.proofs.Common.{◌≡◌, take, string_bytes}
-use Rattle.schedule_engines.specs.ScheduleLines.{breaks_text}
-use Rattle.schedule_engines.proofs.schedule_lines.text_of_breaks.Given as goal
-
-abbrev pub invariant-loop-i : goal.invariant-loop-i
-invariant-loop-i l = string_bytes l.text ≡ breaks_text (take l.i l.pairs)
