@@ -11,7 +11,7 @@ from dataclasses import dataclass
 
 import numpy as np
 
-from ..base.arrays import Bools, Indices, Ints
+from ..base.arrays import Indices, Ints
 from ..base.strange import Strange
 from ..slopes.offsets import PAIRS, Offset
 

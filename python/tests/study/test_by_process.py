@@ -323,3 +323,14 @@ def test_what_ifs_tell_what_each_process_gets(tmp_path):
     assert found.process_leach_ore_t[1] < found.process_leach_ore_t[0]
     assert found.process_mill_ore_t[1] > found.process_mill_ore_t[0]
     assert found.npv[3] < found.npv[2] <= found.npv[0] == found.npv.max()
+
+
+def test_the_report_has_pushbacks_by_process(shells, rows):
+    found = phases.Phases(Shells(shells.study, [800, 1000]))
+    (table,) = contents.of_phase_processes(found)
+    columns = {column.name: column.values for column in table.columns}
+    shown = dict(zip(zip(columns["Pushback"], columns["To"]), columns["Ore in place"]))
+    for k, (low, high) in {1: (-1, 1), 2: (1, 2)}.items():
+        for name in NAMES:
+            here = [row for row in rows if low < row["shell"] <= high and row["to"] == name]
+            assert shown.get((k, name), 0.0) == pytest.approx(sum(row["ore_t"] for row in here))

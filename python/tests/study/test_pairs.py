@@ -7,7 +7,6 @@ import pytest
 import pitplan as pp
 from mines import SIZE, pairs_of, study_of, table
 from pitplan.study import pairs
-from processes import TOP
 
 
 @pytest.mark.parametrize("seed", range(4))
