@@ -3,9 +3,8 @@ use Rattle.fixed_worth.proofs.Common.{◌≡◌, ℕ, zero, suc, Option, Some, N
 use Rattle.std.proofs.lemmas.Nat.{mod-mul-add, mod_below, div_below}
 use Rattle.prec_file.specs.Rests.{ArePairsOf, RestsView}
 use Rattle.blocks_file.specs.Denotes.{BlocksView}
-use Rattle.mine_inputs.specs.BlockTexts.{BlocksFails, BlocksReadFails, ReadsBlocks}
 use Rattle.mine_inputs.specs.declared.engine_fault.EngineFault.{EngineFault}
-use Rattle.mine_inputs.specs.Prelude.{ArePairsBy, cell, rests_by}
+use Rattle.mine_inputs.specs.Prelude.{ArePairsBy, BlocksFails, BlocksReadFails, ReadsBlocks, cell, rests_by}
 use Rattle.mine_inputs.specs.declared.engine_fault.EngineFault.TheVariants as engine
 use Rattle.mine_inputs.proofs.Listed.{by_listed}
 use Rattle.schedules.proofs.Layers.{some_blocks}
@@ -13,8 +12,7 @@ use Rattle.schedule_engines.specs.declared.schedule_fault.PeriodsProblem.TheVari
 use Rattle.schedule_engines.specs.declared.schedule_fault.PlanFault.{PlanFault}
 use Rattle.schedule_engines.specs.declared.schedule_fault.PlanFault.TheVariants as plan
 use Rattle.schedule_engines.specs.declared.uses.Uses.{Uses}
-use Rattle.schedule_engines.specs.PlanTexts.{ReadsUses, UsesFail, UsesWrong}
-use Rattle.schedule_engines.specs.Uses.{AreUses, HasWaits, IsBlock, first_pairs, use_in}
+use Rattle.schedule_engines.specs.Prelude.{AreUses, HasWaits, IsBlock, ReadsUses, UsesFail, UsesWrong, first_pairs, use_in}
 
 -- ---- the number of a block
 
