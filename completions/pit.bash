@@ -72,8 +72,8 @@ _pit() {
             check) words="--prec --upit --blocks --settings --verbose -h --help" files=1 ;;
             slopes) words="--blocks --pattern --up --settings --reduce --verbose -h --help" ;;
             solve) words="--prec --upit --blocks --settings --factor --method --group --steps --workers --progress --verbose --trace --room --periods --uses -h --help" ;;
-            shells) words="--prec --blocks --settings --method --steps --workers --by-block --progress --verbose -h --help" ;;
-            report) words="--prec --blocks --settings --method --steps --workers --by-block --progress --verbose -h --help" ;;
+            shells) words="--prec --blocks --settings --method --steps --workers --by-block --ways --progress --verbose -h --help" ;;
+            report) words="--prec --blocks --settings --method --steps --workers --by-block --ways --progress --verbose -h --help" ;;
             value) words="--prec --upit --blocks --settings --factor --best --verbose -h --help" files=1 ;;
             schedule) words="--prec --upit --blocks --settings --periods --uses --factor --best --verbose -h --help" files=1 ;;
             bound) words="--prec --upit --blocks --settings --periods --uses --verbose -h --help" files=1 ;;

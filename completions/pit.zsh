@@ -57,6 +57,7 @@ _pit() {
             '--steps[The most steps of push-relabel, or turns of pseudoflow, from 1 to 1099511627776 (by default 1000000000 steps and 1099511627776 turns); without --method it chooses push-relabel]:steps: ' \
             '--workers[How many factors pseudoflow solves at a time, or the threads of push-relabel, from 1 to 64 (1 by default)]:workers: ' \
             '--by-block[Writes the shell of each block to this file, and replaces what is in it]:by-block:_files' \
+            '--ways[Adds to the file of --by-block which way each block goes at the factor of the report (the key `report`, or without it the last of `factors`)\: lines block,shell,way, the way empty for waste and outside the pits]' \
             '--progress[Reports on standard error each factor at which a pit is proved, and how far a run of push-relabel is]' \
             '--verbose[Reports on standard error which file failed, and the system'\''s reason]' \
             '-h[Print help (see a summary with '\''-h'\'')]' '--help[Print help (see a summary with '\''-h'\'')]' ;;
@@ -67,6 +68,7 @@ _pit() {
             '--steps[The most steps of push-relabel, or turns of pseudoflow, from 1 to 1099511627776 (by default 1000000000 steps and 1099511627776 turns); without --method it chooses push-relabel]:steps: ' \
             '--workers[How many factors pseudoflow solves at a time, or the threads of push-relabel, from 1 to 64 (1 by default)]:workers: ' \
             '--by-block[Writes the shell of each block to this file, and replaces what is in it]:by-block:_files' \
+            '--ways[Adds the tonnes that go each way to treat a block, at the factor of the worths]' \
             '--progress[Reports on standard error each factor at which a pit is proved, and how far a run of push-relabel is]' \
             '--verbose[Reports on standard error which file failed, and the system'\''s reason]' \
             '-h[Print help (see a summary with '\''-h'\'')]' '--help[Print help (see a summary with '\''-h'\'')]' ;;

@@ -3,7 +3,8 @@
 //! A bench is what lies at one height of an open pit, and a shell is a phase in which it is dug; a
 //! planner's schedule begins with what each phase has on each bench. [`rows`] gives that table for a
 //! model of blocks, a series of shells and a worth for each block, and [`write_report`] writes it as
-//! comma-separated values, for spreadsheets.
+//! comma-separated values, for spreadsheets; [`way_table`] puts the tonnes that go each way to treat a
+//! block behind its rows. [`block_shells_text`] and [`block_ways_text`] say the same block by block.
 //!
 //! Stands on `blocks_file` for heights and tonnes, `shells` for the shells, `ordered_group` for the
 //! definitions of sums over sets of blocks, `fixed_worth` for numbers and devices, and the kit's `csv`. Promises
@@ -16,15 +17,19 @@
 mod bench_row;
 mod bench_table;
 mod block_shells;
+mod block_ways;
 pub mod laws;
 mod report_fault;
 mod row_map;
+mod table_with_ways;
 mod write_fault;
 mod written_table;
 
 pub use bench_row::BenchRow;
 pub use bench_table::rows;
 pub use block_shells::block_shells_text;
+pub use block_ways::block_ways_text;
 pub use report_fault::ReportFault;
+pub use table_with_ways::way_table;
 pub use write_fault::ReportWriteFault;
 pub use written_table::{report_text, write_report};

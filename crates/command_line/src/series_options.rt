@@ -5,7 +5,7 @@ use crate::options::{
     PREC_HELP, PRICED_BLOCKS_HELP, file_option, method_option, named_option, progress_option,
     steps_option, text_of, verbose_solving_option, with_options, workers_option,
 };
-use clap::{Arg, ArgMatches, Command};
+use clap::{Arg, ArgAction, ArgMatches, Command};
 use std::alloc::{AllocError, Global};
 
 /// A command that goes over a series of factors.
@@ -18,7 +18,7 @@ pub enum SeriesCommand {
 }
 
 /// The arguments of such a command: the files, of which that of the predecessors may be left out, and where they were given the method, the steps, the workers and the file of the
-/// table of blocks, and whether progress is shown and it is told why a file failed.
+/// table of blocks, and whether it says which way each block goes, progress is shown and it is told why a file failed.
 #[derive(Clone, Copy)]
 pub struct SeriesArgs<'a> {
     pub command: SeriesCommand,
@@ -29,6 +29,7 @@ pub struct SeriesArgs<'a> {
     pub steps: Option<&'a str>,
     pub workers: Option<&'a str>,
     pub by_block: Option<&'a str>,
+    pub ways: bool,
     pub progress: bool,
     pub verbose: bool,
 }
@@ -65,16 +66,29 @@ const PROGRESS_HELP: &str =
 const BY_BLOCK_HELP: &str =
     "Writes the shell of each block to this file, and replaces what is in it: lines block,shell, the shell empty where no pit holds the block; not an input";
 
-/// The options of such a command; the help says what its settings have.
+/// The option that asks which way each block goes; the help says where it is told.
+pub fn ways_option<'a>(alloc: Global, help: &'a str) -> Arg<'a> {
+    Arg::new(alloc, "ways")
+        .long("ways")
+        .action(ArgAction::SetTrue)
+        .help(help)
+}
+
+/// The options of such a command, with that of ways; the help says what its settings have.
 pub fn with_series<'a>(
     alloc: Global,
     command: Command<'a>,
     settings_help: &'a str,
+    ways: Arg<'a>,
 ) -> Result<Command<'a>, AllocError> {
-    with_options(command, series_options(alloc, settings_help))
+    with_options(command, series_options(alloc, settings_help, ways))
 }
 
-fn series_options<'a>(alloc: Global, settings_help: &'a str) -> Result<Vec<Arg<'a>>, AllocError> {
+fn series_options<'a>(
+    alloc: Global,
+    settings_help: &'a str,
+    ways: Arg<'a>,
+) -> Result<Vec<Arg<'a>>, AllocError> {
     let methods = method_option(alloc, METHOD_HELP);
     Ok(vec![in alloc;
         named_option(alloc, "prec", "FILE", PREC_HELP),
@@ -84,6 +98,7 @@ fn series_options<'a>(alloc: Global, settings_help: &'a str) -> Result<Vec<Arg<'
         steps_option(alloc),
         workers_option(alloc, WORKERS_HELP),
         named_option(alloc, "by-block", "FILE", BY_BLOCK_HELP),
+        ways,
         progress_option(alloc, PROGRESS_HELP),
         verbose_solving_option(alloc),
     ]?)
@@ -100,6 +115,7 @@ pub fn series_args<'a>(command: SeriesCommand, matches: &ArgMatches<'a>) -> Seri
         steps: matches.get_str("steps"),
         workers: matches.get_str("workers"),
         by_block: matches.get_str("by-block"),
+        ways: matches.get_flag("ways"),
         progress: matches.get_flag("progress"),
         verbose: matches.get_flag("verbose"),
     }

@@ -80,7 +80,12 @@ fn make_outputs<'a, R: Files + Print + Eprint + AllocGlobal>(
 {
     let by_block = make_file_if_named(rt, args.verbose, args.by_block)?;
     let out = Counted::new(output(rt, args.verbose, Some(advice_for_series(args))));
-    Ok(SeriesOutputs { by_block, out })
+    let ways = args.ways;
+    Ok(SeriesOutputs {
+        by_block,
+        out,
+        ways,
+    })
 }
 
 // Makes a file, if one is named.

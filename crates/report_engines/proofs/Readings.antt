@@ -18,8 +18,8 @@ use Rattle.mine_inputs.proofs.PricedAnswers.{key_missing, keys_said, prec_answer
 use Rattle.mine_inputs.proofs.SlopedAnswers.{regions_placed, slopes_refused, slopes_read}
 use Rattle.mine_inputs.proofs.MineDevices.{always, under}
 use Rattle.shell_engines.proofs.Readings.{slopes_known}
-use Rattle.shell_engines.specs.Prelude.{is_without, precedence_in, series_keys}
-use Rattle.report_engines.specs.Prelude.{report_keys, report_columns, ReportBlocksRead, factor_by, ReportMineFails, columns_by, regions_among, report_list, IsSaid, SaidFails, PricedModelFails, ReadsRests, RestsReadFail, IsPricedModel, IsReportRead}
+use Rattle.shell_engines.specs.Prelude.{factor_by, is_without, precedence_in, series_keys}
+use Rattle.report_engines.specs.Prelude.{report_keys, report_columns, ReportBlocksRead, ReportMineFails, columns_by, regions_among, report_list, IsSaid, SaidFails, PricedModelFails, ReadsRests, RestsReadFail, IsPricedModel, IsReportRead}
 use Rattle.report_engines.specs.declared.report_inputs.ReportColumns.{ReportColumns}
 use Rattle.report_engines.proofs.Columns.{unfaulted, front_of, all_but}
 use Rattle.report_engines.proofs.SmallSums.{priced_size}
@@ -130,11 +130,10 @@ module _ (p : PrecedenceBy) (s t : List ℕ) (v : SettingsView) (columns : Repor
 
     report_read : (rests : RestsView) → ArePricesRead s t p prices rests → IsReportRead s t p prices rests factors m columns.prices factor
     report_read rests a = record {
-      series = record { mine = a; keys = series_known (is_sloped p) (settings_of s) said.keys.said; factors_are = said.factors_are };
+      series = record { mine = a; keys = series_known (is_sloped p) (settings_of s) said.keys.said; factors_are = said.factors_are; factor_is = said.factor_is };
       keys = said.keys;
       blocks_are = model_read m r;
       columns_are = ap (λ (cs : ReportColumns). cs.prices) said.columns_are;
-      factor_is = said.factor_is;
     }
 
 -- a precedence of its own

@@ -1,5 +1,5 @@
 -- Sums of tonnes and of worths don't overflow 128 bits.
-use Rattle.fixed_worth.proofs.Common.{◌≡◌, ℕ, zero, suc, ◌+◌, ◌*◌, ◌^◌, ◌<◌, ◌≤◌, ℤ, pos, ◌-ℤ◌, ◌*ℤ◌, Bool, List, [], ◌∷◌, length, get_or, All, All-head, All-tail, All-map, sym, ap, ◌∙◌, subst, arith, unsigned_abs, FitsSigned, w128, ints, clamps, fits_signed_from_abs, unsigned_abs-mul, mul-le, get_or-map-range_with_len, length-map-range_with_len, common_steps}
+use Rattle.fixed_worth.proofs.Common.{◌≡◌, ℕ, zero, suc, ◌+◌, ◌*◌, ◌^◌, ◌<◌, ◌≤◌, ℤ, pos, ◌-ℤ◌, ◌*ℤ◌, Bool, true, false, cond, Option, map, range_with_len, List, [], ◌∷◌, length, get_or, All, All-head, All-tail, All-map, sym, ap, ◌∙◌, subst, arith, unsigned_abs, FitsSigned, w128, ints, clamps, fits_signed_from_abs, unsigned_abs-mul, mul-le, get_or-map-range_with_len, length-map-range_with_len, common_steps}
 use Rattle.blocks_file.specs.Denotes.{BlocksView, IsSmall}
 use Rattle.fixed_worth.specs.declared.limits.TheConstants.{MOST_BLOCKS, MOST_FACTOR}
 use Rattle.ordered_group.specs.Sets.{worth_in}
@@ -8,8 +8,8 @@ use Rattle.mine_inputs.specs.declared.columns_of_prices.PriceColumns.{PriceColum
 use Rattle.mine_inputs.specs.declared.columns_of_prices.PriceColumns.TheVariants.{Plain, Treated}
 use Rattle.mine_inputs.specs.PricedTexts.{place_beside, values_of, first_columns, way_from, ways_from}
 use Rattle.mine_inputs.proofs.Priced.{first_size}
-use Rattle.bench_report.specs.Prelude.{reported_blocks, blocks_at, SameLengths, AllSumsFit, SomeBenchSumOverflows}
-use Rattle.report_engines.specs.ReportParts.{IsPricedModel}
+use Rattle.bench_report.specs.Prelude.{goes_way, reported_blocks, blocks_at, SameLengths, AllSumsFit, SomeBenchSumOverflows}
+use Rattle.report_engines.specs.ReportParts.{IsPricedModel, AreSmallAmounts, tonnes_going, way_in}
 
 -- the most that an amount of a block can be, either way
 abbrev most : ℕ
@@ -83,19 +83,36 @@ module _ (priced_by : PriceColumns) (m : BlocksView) (prices : PricesView) (p : 
       let at = get_or-map-range_with_len (worth_at prices k) 0 (priced_count prices) b b (pos 0) (omega (arith, l, priced_size)) (omega arith) in
       subst (λ z. unsigned_abs z ≤ most) (sym at) (worth_bound k b few l)
 
-  -- the model, the series and the worths are of as many blocks
-  pub same_lengths : (series : SeriesView) (k : ℕ) → series.prices ≡ prices → SameLengths m series (worths_at prices k)
-  same_lengths series k is = record {
-    of_shells = ap priced_count is ∙ priced_size;
-    of_worths = length-map-range_with_len (worth_at prices k) 0 (priced_count prices) ∙ priced_size;
-  }
+  -- worths are such amounts
+  pub small_worths : (k : ℕ) → k ≤ MOST_FACTOR → AreSmallAmounts m (worths_at prices k)
+  small_worths k few = record { count = length-map-range_with_len (worth_at prices k) 0 (priced_count prices) ∙ priced_size; small = λ b l. worths_bound k b few l }
 
-  pub sums_fit : (series : SeriesView) (k : ℕ) → m.blocks ≤ MOST_BLOCKS → k ≤ MOST_FACTOR → AllSumsFit (reported_blocks m series (place_beside priced_by) (worths_at prices k))
-  sums_fit series k few low z shell j l =
-      let r = reported_blocks m series (place_beside priced_by) (worths_at prices k) in (
+  -- and so are the tonnes of the blocks that go a way
+  tonnes_small : (ways : List (Option ℕ)) (way b : ℕ) → b < m.blocks → unsigned_abs (tonnes_going m (place_beside priced_by) ways way b) ≤ most
+  tonnes_small ways way b l = go (goes_way (way_in ways b) way)
+    where
+      go : (t : Bool) → unsigned_abs (cond t (get_or (get_or m.columns (place_beside priced_by) []) b (pos 0)) (pos 0)) ≤ most
+      go true = let small = p.small (place_beside priced_by) (omega arith) b l in omega (arith, small)
+      go false = omega arith
+
+  pub small_tonnes : (ways : List (Option ℕ)) (way : ℕ) → AreSmallAmounts m (map (tonnes_going m (place_beside priced_by) ways way) (range_with_len 0 m.blocks))
+  small_tonnes ways way =
+      let f = tonnes_going m (place_beside priced_by) ways way in
+      record {
+        count = length-map-range_with_len f 0 m.blocks;
+        small = λ b l. subst (λ z. unsigned_abs z ≤ most) (sym (get_or-map-range_with_len f 0 m.blocks b b (pos 0) l (omega arith))) (tonnes_small ways way b l);
+      }
+
+  -- the model, the series and the amounts are of as many blocks
+  pub same_lengths : (series : SeriesView) (amounts : List ℤ) → series.prices ≡ prices → AreSmallAmounts m amounts → SameLengths m series amounts
+  same_lengths series amounts is small = record { of_shells = ap priced_count is ∙ priced_size; of_worths = small.count }
+
+  sums_fit : (series : SeriesView) (amounts : List ℤ) → m.blocks ≤ MOST_BLOCKS → AreSmallAmounts m amounts → AllSumsFit (reported_blocks m series (place_beside priced_by) amounts)
+  sums_fit series amounts few small z shell j l =
+      let r = reported_blocks m series (place_beside priced_by) amounts in (
         sum_fits r.tonnes (blocks_at r z shell) m.blocks j few l (λ b k. let small = p.small (place_beside priced_by) (omega arith) b k in omega (arith, small)),
-        sum_fits r.worth (blocks_at r z shell) m.blocks j few l (λ b h. worths_bound k b low h),
+        sum_fits r.worth (blocks_at r z shell) m.blocks j few l (λ b h. small.small b h),
       )
 
-  pub none_overflows : (series : SeriesView) (k : ℕ) → m.blocks ≤ MOST_BLOCKS → k ≤ MOST_FACTOR → SomeBenchSumOverflows (reported_blocks m series (place_beside priced_by) (worths_at prices k)) → ⊥
-  none_overflows series k few low o = o.4 (sums_fit series k few low o.0 o.1 o.2 o.3)
+  pub none_overflows : (series : SeriesView) (amounts : List ℤ) → m.blocks ≤ MOST_BLOCKS → AreSmallAmounts m amounts → SomeBenchSumOverflows (reported_blocks m series (place_beside priced_by) amounts) → ⊥
+  none_overflows series amounts few small o = o.4 (sums_fit series amounts few small o.0 o.1 o.2 o.3)

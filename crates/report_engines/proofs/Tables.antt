@@ -7,9 +7,9 @@ use Rattle.prec_file.specs.Rests.{RestsView}
 use Rattle.settings_file.specs.Settings.{settings_of}
 use Rattle.closure_net.specs.declared.net.NetFault.{NetFault}
 use Rattle.closure_net.specs.declared.net.NetFault.TheVariants as net_fault
-use Rattle.shells.specs.Prelude.{PricesView, priced_count, worth_at, worths_at, SeriesView, upto, IsSeries, BestPitsAreNested}
+use Rattle.shells.specs.Prelude.{PricesView, priced_count, way_at, worth_at, worths_at, SeriesView, upto, IsSeries, BestPitsAreNested}
 use Rattle.bench_report.specs.declared.bench_row.BenchRow.{BenchRow}
-use Rattle.bench_report.specs.Prelude.{reported_blocks, IsBenchTable, table_text}
+use Rattle.bench_report.specs.Prelude.{IsBenchTable, bench_text, way_count}
 use Rattle.engines.specs.declared.judgement.Verdict.TheVariants.{No}
 use Rattle.engines.specs.declared.effort.Effort.{Effort}
 use Rattle.mine_inputs.specs.declared.engine_fault.EngineFault.{EngineFault}
@@ -17,13 +17,14 @@ use Rattle.mine_inputs.specs.declared.columns_of_prices.PriceColumns.{PriceColum
 use Rattle.mine_inputs.specs.Prelude.{PrecedenceBy, is_sloped, columns_said, column_list, place_beside, region_columns, cell, table_of, of_model}
 use Rattle.shell_engines.specs.declared.shell_rows.ShellRow.{ShellRow}
 use Rattle.shell_engines.specs.declared.no_series.NoSeries.{NoSeries}
-use Rattle.shell_engines.specs.Prelude.{IsSettled, NoSeriesStands, TellsWhy, IsFaultOf, DenoteSeries, ShellsFail}
+use Rattle.shell_engines.specs.declared.series_outputs.Wanted.{Wanted}
+use Rattle.shell_engines.specs.Prelude.{report_factor, way_said, IsSettled, NoSeriesStands, TellsWhy, IsFaultOf, DenoteSeries, ShellsFail}
 use Rattle.shell_engines.specs.declared.series_outputs.Answer.{Answer}
 use Rattle.shell_engines.proofs.Lifted.{nested, denoted, no_series_answer}
-use Rattle.shell_engines.proofs.BlockTables.{first_shell, best_is}
+use Rattle.shell_engines.proofs.BlockTables.{first_shell, best_is, way_is}
 use Rattle.mine_inputs.proofs.Priced.{price_places, priced_at}
-use Rattle.report_engines.specs.Prelude.{ReportBlocksRead, report_factor, report_blocks, IsReport, AnswersReport, ReportFails, IsReportRead}
-use Rattle.report_engines.proofs.SameBlocks.{AreAlike, table_same}
+use Rattle.report_engines.specs.Prelude.{ReportBlocksRead, report_blocks, IsReport, AnswersReport, ReportFails, IsReportRead, blocks_with}
+use Rattle.report_engines.proofs.SameBlocks.{AreAlike, table_same, text_same}
 
 -- the tonnes stand behind the columns of prices
 tonnes_chosen : (priced_by : PriceColumns) (tonnes : ℕ) (others : List ℕ) → get_or (column_list priced_by ++ (tonnes ∷ others)) (place_beside priced_by) 0 ≡ tonnes
@@ -46,7 +47,7 @@ module _ (s t : List ℕ) (p : PrecedenceBy) (prices : PricesView) (rests : Rest
     worth_is b l =
         let inside : b < priced_count prices = omega (arith, l, size_is, read.series.mine.size) in
         let at = get_or-map-range_with_len (worth_at prices factor) 0 (priced_count prices) b b (pos 0) inside (omega arith) in
-        sym (ap (λ (v : PricesView). get_or (worths_at v factor) b (pos 0)) settled.same_prices ∙ at ∙ ap (λ (v : PricesView). worth_at v factor b) read.series.mine.table ∙ ap (λ k. worth_at (table_of s t) k b) read.factor_is)
+        sym (ap (λ (v : PricesView). get_or (worths_at v factor) b (pos 0)) settled.same_prices ∙ at ∙ ap (λ (v : PricesView). worth_at v factor b) read.series.mine.table ∙ ap (λ k. worth_at (table_of s t) k b) read.series.factor_is)
 
     -- the tonnes of a block are those of its record
     tonnes_are : (b : ℕ) → b < m.blocks → get_or (get_or m.columns (place_beside priced_by) []) b (pos 0) ≡ cell t (unwrap_or (settings_of s).tonnes 0) b
@@ -57,36 +58,45 @@ module _ (s t : List ℕ) (p : PrecedenceBy) (prices : PricesView) (rests : Rest
         let tonnes = unwrap_or said.tonnes 0 in
         subst Q (sym (ap place_beside read.columns_are)) (read.blocks_are.2.value (place_beside kind) b (tonnes_within kind tonnes (region_columns said)) l ∙ ap (λ i. cell t i b) (tonnes_chosen kind tonnes (region_columns said)))
 
-    alike : AreAlike (reported_blocks m series (place_beside priced_by) (worths_at series.prices factor)) (report_blocks rests.blocks s t (upto series.shells))
+    alike : AreAlike (blocks_with m priced_by series (worths_at series.prices factor)) (report_blocks rests.blocks s t (upto series.shells))
     alike = record {
       blocks = size_is;
       height = λ b l. sym (ap (λ (q : Place). q.z) (read.blocks_are.2.place b l));
-      shell = λ b l. first_shell s t p prices rests factors read.series series shell_rows settled is b;
+      shell = λ b l. first_shell s t p prices rests factors factor read.series series shell_rows settled is b;
       tonnes = λ b l. sym (tonnes_are b l);
       worth = worth_is;
     }
 
-    pub is_report : BestPitsAreNested → (rows : List BenchRow) → IsBenchTable (reported_blocks m series (place_beside priced_by) (worths_at series.prices factor)) rows → (text : List ℕ) → text ≡ table_text rows → IsReport s t p text
-    is_report law rows table text spelled = record {
+    -- the text of the table is that of the texts
+    same_text : (ways : Bool) (rows : List BenchRow)
+        → bench_text ways (blocks_with m priced_by series (worths_at series.prices factor)) (way_at series.prices factor) (way_count series.prices) rows ≡ bench_text ways (report_blocks rests.blocks s t (upto series.shells)) (way_said s t) (way_count (table_of s t)) rows
+    same_text ways rows =
+        let count : way_count series.prices ≡ way_count (table_of s t) = ap way_count (settled.same_prices ∙ read.series.mine.table) in
+        text_same _ _ alike ways (way_at series.prices factor) (way_count series.prices) rows
+        ∙ (λ i. bench_text ways (report_blocks rests.blocks s t (upto series.shells)) (λ b. way_is s t p prices rests factors factor read.series series shell_rows settled is b i) (count i) rows)
+
+    pub is_report : BestPitsAreNested → (ways : Bool) (rows : List BenchRow) → IsBenchTable (blocks_with m priced_by series (worths_at series.prices factor)) rows → (text : List ℕ)
+        → text ≡ bench_text ways (blocks_with m priced_by series (worths_at series.prices factor)) (way_at series.prices factor) (way_count series.prices) rows → IsReport ways s t p text
+    is_report law ways rows table text spelled = record {
       size = rests.blocks;
       mine = read.series.mine.mine;
       read = blocks_read;
       pit = upto series.shells;
-      best = best_is s t p prices rests factors read.series series shell_rows settled is;
+      best = best_is s t p prices rests factors factor read.series series shell_rows settled is;
       nested = nested s t p prices rests read.series.mine law;
       rows = rows;
       table = table_same _ _ alike rows table;
-      spelled = spelled;
+      spelled = spelled ∙ same_text ways rows;
     }
 
   both : ReportBlocksRead (is_sloped p) s t × DenoteSeries s t p
-  both = (blocks_read, denoted s t p prices rests factors read.series)
+  both = (blocks_read, denoted s t p prices rests factors factor read.series)
 
   net_fails : (fault : NetFault) → ShellsFail s t p (of_model fault) → ReportFails s t p (of_model fault)
   net_fails net_fault.NoMemory h = tt
   net_fails fault h = (blocks_read, h)
 
   -- what comes of a mine that has no series
-  pub no_report_answer : (effort : Effort) (asked : Bool) (x : NoSeries) (answer : Result Answer EngineFault) → NoSeriesStands scaled_block rests prices factors effort x → MatchResult answer (λ a. (a.verdict ≡ No) × (a.table.items ≡ []) × TellsWhy x a.text.items) (IsFaultOf x)
-      → MatchResult answer (λ a. AnswersReport s t p effort asked a.verdict a.table.items a.text.items) (ReportFails s t p)
-  no_report_answer effort asked = no_series_answer s t p prices rests factors read.series effort (AnswersReport s t p effort asked) (ReportFails s t p) (λ text h. (blocks_read, h, refl)) tt both both net_fails
+  pub no_report_answer : (effort : Effort) (wanted : Wanted) (x : NoSeries) (answer : Result Answer EngineFault) → NoSeriesStands scaled_block rests prices factors effort x → MatchResult answer (λ a. (a.verdict ≡ No) × (a.table.items ≡ []) × TellsWhy x a.text.items) (IsFaultOf x)
+      → MatchResult answer (λ a. AnswersReport s t p effort wanted a.verdict a.table.items a.text.items) (ReportFails s t p)
+  no_report_answer effort wanted = no_series_answer s t p prices rests factors factor read.series effort (AnswersReport s t p effort wanted) (ReportFails s t p) (λ text h. (blocks_read, h, refl)) tt both both net_fails

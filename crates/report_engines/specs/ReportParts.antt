@@ -1,25 +1,66 @@
 -- What only the functions of this crate say to one another.
-use Rattle.std.specs.Prelude.{◌≡◌, ℕ, ◌+◌, ◌<◌, ◌≤◌, Bool, List, ◌∷◌, ◌++◌, length, unwrap_or}
+use Rattle.std.specs.Prelude.{◌≡◌, ℕ, ◌+◌, ◌*◌, ◌^◌, ◌<◌, ◌≤◌, ℤ, pos, Bool, cond, List, [], ◌∷◌, ◌++◌, length, map, slice_index_or, unsigned_abs, Vec, Option, None, unwrap_or}
+use Rattle.std.specs.List.{range_with_len}
+use Rattle.std.specs.declared.alloc.Global.{Global}
 use Rattle.blocks_file.specs.Denotes.{BlocksView, IsSmall, narrowed}
 use Rattle.prec_file.specs.Rests.{RestsView}
 use Rattle.settings_file.specs.Settings.{SettingsView, settings_of}
 use Rattle.shells.specs.Prices.{PricesView, PricesFaultStands}
+use Rattle.shells.specs.Series.{SeriesView}
+use Rattle.bench_report.specs.declared.bench_row.BenchRow.{BenchRow}
+use Rattle.bench_report.specs.Prelude.{ReportedBlocks, reported_blocks, IsBenchTable, goes_way, way_tonnes}
 use Rattle.mine_inputs.specs.declared.engine_fault.EngineFault.{EngineFault}
 use Rattle.mine_inputs.specs.declared.engine_fault.EngineFault.TheVariants as engine
 use Rattle.mine_inputs.specs.declared.columns_of_prices.PriceColumns.{PriceColumns}
+use Rattle.mine_inputs.specs.declared.columns_of_prices.PriceColumns.TheVariants.{Plain, Treated}
 use Rattle.mine_inputs.specs.Prelude.{PrecedenceBy, by_slopes, by_text, is_sloped, columns_for, columns_said, column_after, column_list, place_beside, first_columns, rests_said, unused_by, SettingsFails, ReadsBlocks, BlocksFails, ReadsPrec, PrecReadFails, SlopesRead, ArePairsBy, PairsSaidFail}
-use Rattle.shell_engines.specs.SeriesTexts.{factors_said, IsSeriesRead}
+use Rattle.shell_engines.specs.SeriesTexts.{factors_said, report_factor, IsSeriesRead}
 use Rattle.report_engines.specs.declared.report_inputs.ReportColumns.{ReportColumns}
-use Rattle.report_engines.specs.ReportTexts.{report_keys, ReportKeysKnown, report_columns, report_factor}
+use Rattle.report_engines.specs.ReportTexts.{report_keys, ReportKeysKnown, report_columns}
 
--- The prices, the pairs and the factors that were read, the blocks with their places and columns, the columns of the prices, and
--- the factor of the report are those of the texts.
+-- The prices, the pairs, the factors and the factor of the report that were read, the blocks with their places and columns, and the
+-- columns of the prices are those of the texts.
 pub record IsReportRead (settings blocks : List ℕ) (precedence : PrecedenceBy) (prices : PricesView) (rests : RestsView) (factors : List ℕ) (model : BlocksView) (priced_by : PriceColumns) (factor : ℕ) : Type 0 where
-  pub series : IsSeriesRead settings blocks precedence prices rests factors
+  pub series : IsSeriesRead settings blocks precedence prices rests factors factor
   pub keys : ReportKeysKnown (is_sloped precedence) settings
   pub blocks_are : ReadsBlocks (report_columns (settings_of settings)) blocks model
   pub columns_are : priced_by ≡ columns_said (settings_of settings)
-  pub factor_is : factor ≡ report_factor settings
+
+-- the blocks of a model in the shells of a series, with their tonnes behind the columns of prices, and these worths
+abbrev pub blocks_with : BlocksView → PriceColumns → SeriesView → List ℤ → ReportedBlocks
+blocks_with m priced_by series worths = reported_blocks m series (place_beside priced_by) worths
+
+-- there is an amount for each block of a model, and none is large beside 128 bits
+pub record AreSmallAmounts (m : BlocksView) (amounts : List ℤ) : Type 0 where
+  pub count : length amounts ≡ m.blocks
+  pub small : (b : ℕ) → b < m.blocks → unsigned_abs (slice_index_or amounts b (pos 0)) ≤ 2 * 10 ^ 22
+
+-- how many ways the columns of prices have
+abbrev pub ways_among : PriceColumns → ℕ
+ways_among (Plain revenue cost) = 0
+ways_among (Treated ways mining) = length ways
+
+-- the tonnes of a block where it goes this way, and nothing otherwise
+abbrev pub tonnes_if : BlocksView → ℕ → ℕ → Option ℕ → ℕ → ℤ
+tonnes_if m column b goes way = cond (goes_way goes way) (slice_index_or (slice_index_or m.columns column []) b (pos 0)) (pos 0)
+
+-- which way a block goes, by a list of the ways of all
+abbrev pub way_in : List (Option ℕ) → ℕ → Option ℕ
+way_in ways b = slice_index_or ways b None
+
+-- the same of a block whose way a list has
+abbrev pub tonnes_going : BlocksView → ℕ → List (Option ℕ) → ℕ → ℕ → ℤ
+tonnes_going m column ways way b = tonnes_if m column b (way_in ways b) way
+
+-- a number for each row of the bench table of these blocks, whatever they are worth: the row's tonnes that go this way
+abbrev pub IsWayColumn : BlocksView → PriceColumns → SeriesView → List (Option ℕ) → ℕ → List ℤ → Type 0
+IsWayColumn m priced_by series ways way column = (worths : List ℤ) (rows : List BenchRow) → IsBenchTable (blocks_with m priced_by series worths) rows
+    → column ≡ map (λ r. way_tonnes (blocks_with m priced_by series worths) (way_in ways) r way) rows
+
+-- a list of such numbers for each of n ways
+abbrev pub AreWayColumns : BlocksView → PriceColumns → SeriesView → List (Option ℕ) → ℕ → List (Vec ℤ Global) → Type 0
+AreWayColumns m priced_by series ways n columns = (worths : List ℤ) (rows : List BenchRow) → IsBenchTable (blocks_with m priced_by series worths) rows
+    → map (λ column. column.items) columns ≡ map (λ i. map (λ r. way_tonnes (blocks_with m priced_by series worths) (way_in ways) r i) rows) (range_with_len 0 n)
 
 -- The prices are the first columns of a model, one more has tonnes, and no value of these is large.
 pub record IsPricedModel (priced_by : PriceColumns) (m : BlocksView) (prices : PricesView) : Type 0 where

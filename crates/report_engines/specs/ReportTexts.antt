@@ -1,6 +1,6 @@
 -- The texts of a mine that is reported: settings that name its prices, its tonnes and the factors, blocks, and what says which block
 -- rests on which.
-use Rattle.std.specs.Prelude.{◌≡◌, ℕ, ◌-◌, Bool, List, [], ◌∷◌, ◌++◌, length, slice_index_or, None, unwrap_or}
+use Rattle.std.specs.Prelude.{◌≡◌, ℕ, Bool, List, [], ◌∷◌, ◌++◌, None, unwrap_or}
 use Rattle.std.specs.List.{find}
 use Rattle.blocks_file.specs.Records as blocks
 use Rattle.settings_file.specs.declared.keys.Key.{Key}
@@ -11,7 +11,7 @@ use Rattle.bench_report.specs.Benches.{ReportedBlocks}
 use Rattle.mine_inputs.specs.declared.engine_fault.EngineFault.{EngineFault}
 use Rattle.mine_inputs.specs.declared.engine_fault.EngineFault.TheVariants as engine
 use Rattle.mine_inputs.specs.Prelude.{IsWithinLimit, BlocksFails, PrecedenceBy, is_sloped, texts_by, keys_by, others_by, unused_by, price_columns, region_columns, cell, table_of, KeysSaid, SettingsFails, MineFails}
-use Rattle.shell_engines.specs.SeriesTexts.{factors_said}
+use Rattle.shell_engines.specs.SeriesTexts.{factors_said, report_factor}
 
 -- the keys that a report needs, where settings list slopes and where they don't
 abbrev pub report_keys : Bool → SettingsView → List Key
@@ -30,18 +30,6 @@ pub record ReportBlocksRead (sloped : Bool) (settings text : List ℕ) : Type 0 
   pub keys : ReportKeysKnown sloped settings
   pub within : IsWithinLimit text
   pub read : blocks.fault_of (report_columns (settings_of settings)) text ≡ None
-
--- the last of some factors
-abbrev pub last_of : List ℕ → ℕ
-last_of factors = slice_index_or factors (length factors - 1) 0
-
--- the factor of the report, in thousandths: the one that the settings name, or else the last of the factors
-abbrev pub factor_by : SettingsView → ℕ
-factor_by s = unwrap_or s.report (last_of (unwrap_or s.factors []))
-
--- the factor of the report by a text of settings, in thousandths
-abbrev pub report_factor : List ℕ → ℕ
-report_factor settings = factor_by (settings_of settings)
 
 -- What is reported of n blocks, where these are the pits at the factors: the height of a block and its tonnes as its
 -- record says; as its shell the first factor whose pit holds it; and its worth at the factor of the report.

@@ -10,7 +10,7 @@ ghost use Rattle.shells.specs.Prices.{priced_count, NoRevenueNegative};
 ghost use Rattle.mine_inputs.specs.PricedTexts.{columns_said, place_beside, unused_by};
 ghost use Rattle.mine_inputs.specs.SlopedTexts.{column_after};
 ghost use Rattle.shell_engines.specs.Devices.{ForSeries, InputsCanCount, failures_in, input_failures, NoInputFailed, precedence_in};
-ghost use Rattle.report_engines.specs.ReportTexts.{report_keys, factor_by, ReportMineFails};
+ghost use Rattle.report_engines.specs.ReportTexts.{report_keys, ReportMineFails};
 ghost use Rattle.report_engines.specs.ReportParts.{columns_by, report_list, IsSaid, SaidFails, PricedModelFails, IsReportRead, IsPricedModel, ReadsRests, RestsReadFail};
 
 use blocks_file::BlockModel;
@@ -22,21 +22,19 @@ use mine_inputs::{
 };
 use prec_file::Predecessors;
 use settings_file::{Key, Settings};
-use shell_engines::series_inputs::{SeriesInputs, SeriesMine, factors_of};
+use shell_engines::series_inputs::{SeriesInputs, SeriesMine, factor_of, factors_of};
 use shells::{Factor, Prices};
 use std::alloc::Global;
 
 /// A mine that is reported.
 #[derive(Drop)]
 pub struct ReportMine {
-    /// Its prices and its precedence, and the factors of its shells.
+    /// Its prices and its precedence, the factors of its shells, and that of the report.
     pub series: SeriesMine,
     /// Its blocks, with the columns of their prices and their tonnes.
     pub model: BlockModel,
     /// The columns of their prices.
     pub priced_by: PriceColumns,
-    /// The factor at which blocks are worth what the report says.
-    pub factor: Factor,
     ghost priced: { IsPricedModel priced_by model series.prices },
 }
 
@@ -81,21 +79,6 @@ fn columns_of(settings: &Settings, is_sloped: bool) -> Result<ReportColumns, Eng
         tonnes,
         region,
     })
-}
-
-// The factor of the report: the one that the settings name, or else the last of the factors.
-fn factor_of(settings: &Settings, factors: &[Factor]) -> Factor
-    requires some { 1 ≤ length factors.now }
-    requires are { factors.now ≡ unwrap_or settings.now.factors [] }
-    ensures { result ≡ factor_by settings.now }
-{
-    match settings.report() {
-        Some(thousandths) => match Factor::new(thousandths) {
-            Some(factor) => factor,
-            None => unreachable!(),
-        },
-        None => factors[factors.len() - 1],
-    }
 }
 
 // What settings say of a report.
@@ -266,7 +249,7 @@ pub fn report_mine_from<D: CountedRead>(
     requires { InputsCanCount inputs.old D.failed }
     ensures read { ForSeries inputs.old D.remaining (λ s b p. MatchResult result
         (λ mine. IsReportRead s b p mine.series.prices mine.series.predecessors
-        mine.series.factors.items mine.model mine.priced_by mine.factor)
+        mine.series.factors.items mine.model mine.priced_by mine.series.factor)
         (ReportMineFails s b p)) }
     ensures device { IsErrOf result EngineFault.Device
         → input_failures inputs.new D.failed ≡ input_failures inputs.old D.failed + 1 }
@@ -281,11 +264,11 @@ pub fn report_mine_from<D: CountedRead>(
         prices: read.prices,
         predecessors,
         factors: said.factors,
+        factor: said.factor,
     };
     Ok(ReportMine {
         series,
         model: read.model,
         priced_by: read.priced_by,
-        factor: said.factor,
     })
 }

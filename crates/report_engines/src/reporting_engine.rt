@@ -3,19 +3,19 @@
 
 ghost use Rattle.std.specs.Prelude.{ℕ, List, ◌+◌, ◌≡◌, MatchResult, IsErrOf};
 ghost use Rattle.mine_inputs.specs.Mines.{PrecedenceBy};
-ghost use Rattle.shell_engines.specs.Devices.{ForSeries, InputsCanCount, OutputsCanCount, input_failures, output_failures, NoInputFailed, NoOutputFailed, is_asked, contents_in};
+ghost use Rattle.shell_engines.specs.Devices.{ForSeries, InputsCanCount, OutputsCanCount, input_failures, output_failures, NoInputFailed, NoOutputFailed, contents_in, wanted_by};
 ghost use Rattle.report_engines.specs.Reports.{AnswersReport, ReportFails, Reports};
 ghost use Rattle.report_engines.specs.ReportParts.{IsReportRead};
 
-use crate::bench_rows::rows_at;
+use crate::bench_rows::{ShellBlocks, rows_at};
 use crate::report_inputs::{ReportMine, report_mine_from};
-use bench_report::report_text;
+use crate::way_rows::text_of;
 use engines::{Effort, EngineFault, Verdict};
 use fixed_worth::{CountedRead, CountedWrite};
 use pseudoflow::Progress;
 use shell_engines::block_tables::table_if_asked;
 use shell_engines::series_engine::no_series;
-use shell_engines::series_outputs::{Answer, send};
+use shell_engines::series_outputs::{Answer, Wanted, send};
 use shell_engines::settled_series::settle;
 use shell_engines::{SeriesInputs, SeriesOutputs, SeriesProgress};
 use shells::laws;
@@ -27,8 +27,9 @@ use workers::Gate;
 /// Reports the shells of the mine of settings, blocks and a precedence: the bench table, as comma-separated values with
 /// the line `z,shell,blocks,tonnes,worth` first. A block's shell is the lowest factor of the settings whose best pit
 /// holds it, its tonnes are those of its record, and its worth is that at the factor of the report: the settings' key
-/// `report`, or else the last of the factors. Where the table of blocks is asked for, it is written first: a line for each
-/// block with its shell.
+/// `report`, or else the last of the factors. Where ways are wanted, the tonnes that go each way at that factor stand behind
+/// these numbers, `tonnes1`, `tonnes2` and so on. Where the table of blocks is asked for, it is written first: a line for
+/// each block with its shell, and with its way where ways are wanted.
 ///
 /// `Done` where the table was written: each pit was checked with a flow that proves it, and added to a series, before
 /// anything was written. `No` where at a factor no pit was proved: the line `UNSETTLED factor` where the run needs more
@@ -65,7 +66,7 @@ pub fn report_engine<
 
     // What it answers and writes, where the readers tell their bytes.
     ensures answer { ForSeries inputs.old D.remaining
-        (λ s b p. Reports s b p effort (is_asked outputs.old.by_block)
+        (λ s b p. Reports s b p effort (wanted_by outputs.old)
         (contents_in outputs.old.by_block V.contents) (contents_in outputs.new.by_block V.contents)
         (W.contents outputs.old.out) (W.contents outputs.new.out) result) }
 
@@ -78,8 +79,8 @@ pub fn report_engine<
         × NoOutputFailed outputs.old outputs.new V.failed W.failed }
 {
     let mine = report_mine_from(alloc, inputs)?;
-    let is_asked = outputs.has_table();
-    let answer = answer_of(rt, alloc, mine, effort, gate, is_asked)?;
+    let wanted = outputs.wanted();
+    let answer = answer_of(rt, alloc, mine, effort, gate, wanted)?;
     send(&answer, outputs)
 }
 
@@ -90,13 +91,13 @@ fn answer_of<R: Threads + Wait + Sync, T: Gate + Progress + SeriesProgress>(
     mine: ReportMine,
     effort: Effort,
     gate: &T,
-    is_asked: bool,
+    wanted: Wanted,
 ) -> Result<Answer, EngineFault>
     ensures answer { (s b : List ℕ) (p : PrecedenceBy)
         → IsReportRead s b p mine.series.prices mine.series.predecessors
-        mine.series.factors.items mine.model mine.priced_by mine.factor
+        mine.series.factors.items mine.model mine.priced_by mine.series.factor
         → MatchResult result
-        (λ a. AnswersReport s b p effort is_asked a.verdict a.table.items a.text.items)
+        (λ a. AnswersReport s b p effort wanted a.verdict a.table.items a.text.items)
         (λ e. ReportFails s b p e) }
     ensures no_device { ¬ IsErrOf result EngineFault.Device }
 {
@@ -106,16 +107,22 @@ fn answer_of<R: Threads + Wait + Sync, T: Gate + Progress + SeriesProgress>(
         series,
         model,
         priced_by,
-        factor,
     } = mine;
+    let factor = series.factor;
     let shells = match settle(rt, alloc, series, effort, gate) {
         Ok(shells) => shells,
         Err(none) => return no_series(alloc, none),
     };
-    let rows = rows_at(rt, alloc, &model, &priced_by, &shells.series, factor)?;
+    let blocks = ShellBlocks {
+        model: &model,
+        priced_by: &priced_by,
+        series: &shells.series,
+    };
+    let rows = rows_at(rt, alloc, &blocks, factor)?;
+    let text = text_of(alloc, &blocks, factor, rows.as_slice(), wanted.ways)?;
     Ok(Answer {
         verdict: Verdict::Done,
-        table: table_if_asked(alloc, is_asked, &shells.series)?,
-        text: report_text(alloc, rows.as_slice())?,
+        table: table_if_asked(alloc, wanted, factor, &shells.series)?,
+        text,
     })
 }

@@ -2,15 +2,16 @@
 use Rattle.fixed_worth.proofs.Common.{◌≡◌, ℕ, Bool, true, false, List, sym, ap, ◌∙◌, subst, Contains, find}
 use Rattle.prec_file.specs.Rests.{RestsView}
 use Rattle.closure_net.specs.Mine.{Mine, IsBest}
-use Rattle.shells.specs.Prelude.{PricesView, priced_count, SeriesView, mine_at, shell_at, upto, IsSeries}
-use Rattle.bench_report.specs.BlockShells.{block_table_text}
+use Rattle.shells.specs.Prelude.{PricesView, priced_count, way_at, SeriesView, mine_at, shell_at, upto, IsSeries}
+use Rattle.bench_report.specs.BlockShells.{blocks_text}
 use Rattle.shell_engines.specs.declared.shell_rows.ShellRow.{ShellRow}
+use Rattle.mine_inputs.specs.PricedTexts.{table_of}
 use Rattle.mine_inputs.specs.Mines.{PrecedenceBy}
-use Rattle.shell_engines.specs.Prelude.{mine_at_factor, IsBlockTable, IsTableIfAsked, factors_said, IsSeriesRead, IsSettled, HasTableIfAsked}
+use Rattle.shell_engines.specs.Prelude.{mine_at_factor, IsBlockTable, IsTableIfAsked, factors_said, IsSeriesRead, IsSettled, HasTableIfAsked, way_said}
 use Rattle.shell_engines.proofs.FirstShell.{first_is}
 use Rattle.shell_engines.proofs.Lifted.{mine_is}
 
-module _ (s t : List ℕ) (p : PrecedenceBy) (prices : PricesView) (rests : RestsView) (factors : List ℕ) (read : IsSeriesRead s t p prices rests factors) (series : SeriesView) (shell_rows : List ShellRow) (settled : IsSettled rests.pairs prices factors series shell_rows) (is : IsSeries series) where
+module _ (s t : List ℕ) (p : PrecedenceBy) (prices : PricesView) (rests : RestsView) (factors : List ℕ) (factor : ℕ) (read : IsSeriesRead s t p prices rests factors factor) (series : SeriesView) (shell_rows : List ShellRow) (settled : IsSettled rests.pairs prices factors series shell_rows) (is : IsSeries series) where
   -- the shell of a block is the first factor whose pit holds it
   pub first_shell : (b : ℕ) → find (λ k. upto series.shells k b) (factors_said s) ≡ shell_at series.shells b
   first_shell b = subst (λ (fs : List ℕ). find (λ k. upto series.shells k b) fs ≡ shell_at series.shells b) (settled.same_factors ∙ read.factors_are) (first_is (shell_at series.shells b) series.factors is.rising (is.known b))
@@ -26,12 +27,16 @@ module _ (s t : List ℕ) (p : PrecedenceBy) (prices : PricesView) (rests : Rest
   count : priced_count series.prices ≡ rests.blocks
   count = ap priced_count settled.same_prices ∙ read.mine.size
 
-  same_text : block_table_text (shell_at series.shells) (priced_count series.prices) ≡ block_table_text (λ b. find (λ k. upto series.shells k b) (factors_said s)) rests.blocks
-  same_text = λ i. block_table_text (λ b. sym (first_shell b) i) (count i)
+  -- the way of a block by the prices of the series is that by the texts
+  pub way_is : (b : ℕ) → way_at series.prices factor b ≡ way_said s t b
+  way_is b = ap (λ (v : PricesView). way_at v factor b) (settled.same_prices ∙ read.mine.table) ∙ ap (λ k. way_at (table_of s t) k b) read.factor_is
 
-  block_table : IsBlockTable s t p (block_table_text (shell_at series.shells) (priced_count series.prices))
-  block_table = record { size = rests.blocks; mine = read.mine.mine; pit = upto series.shells; best = best_is; spelled = same_text }
+  same_text : (ways : Bool) → blocks_text ways (shell_at series.shells) (way_at series.prices factor) (priced_count series.prices) ≡ blocks_text ways (λ b. find (λ k. upto series.shells k b) (factors_said s)) (way_said s t) rests.blocks
+  same_text ways = λ i. blocks_text ways (λ b. sym (first_shell b) i) (λ b. way_is b i) (count i)
 
-  pub has_table : (asked : Bool) (text : List ℕ) → HasTableIfAsked asked series text → IsTableIfAsked asked s t p text
-  has_table true text h = subst (λ (xs : List ℕ). IsBlockTable s t p xs) (sym h) block_table
-  has_table false text h = h
+  block_table : (ways : Bool) → IsBlockTable ways s t p (blocks_text ways (shell_at series.shells) (way_at series.prices factor) (priced_count series.prices))
+  block_table ways = record { size = rests.blocks; mine = read.mine.mine; pit = upto series.shells; best = best_is; spelled = same_text ways }
+
+  pub has_table : (asked ways : Bool) (text : List ℕ) → HasTableIfAsked asked ways factor series text → IsTableIfAsked asked ways s t p text
+  has_table true ways text h = subst (λ (xs : List ℕ). IsBlockTable ways s t p xs) (sym h) (block_table ways)
+  has_table false ways text h = h

@@ -9,7 +9,7 @@ use Rattle.shells.specs.Prelude.{PricesView, NoRevenueNegative, worth_at, worths
 use Rattle.shells.proofs.Shells.{net_of_over}
 use Rattle.engines.specs.declared.effort.Effort.{Effort}
 use Rattle.engines.specs.declared.solvers.Unsolved.{Unsolved}
-use Rattle.engines.specs.declared.solvers.Unsolved.TheVariants.{TooLarge, NoMemory, NoThread, Stranger}
+use Rattle.engines.specs.declared.solvers.Unsolved.TheVariants.{NoThread, Stranger}
 use Rattle.engines.specs.declared.judgement.Verdict.{Verdict}
 use Rattle.engines.specs.declared.judgement.Verdict.TheVariants.{No}
 use Rattle.mine_inputs.specs.declared.engine_fault.EngineFault.{EngineFault}
@@ -75,7 +75,7 @@ module _ (s t : List ℕ) (p : PrecedenceBy) (table : PricesView) (rests : Rests
   net_fails : (k : ℕ) (fault : NetFault) → WorthsFaultStands scaled_block rests.blocks (worths_at table k) fault → NetFails (texts_by s t p k) rests.blocks shell_group fault
   net_fails k fault f = record { worths = worths_at table k; are = (worths_priced s t p table rests k r).worths; stands = f }
 
-module _ (s t : List ℕ) (p : PrecedenceBy) (table : PricesView) (rests : RestsView) (factors : List ℕ) (read : IsSeriesRead s t p table rests factors) where
+module _ (s t : List ℕ) (p : PrecedenceBy) (table : PricesView) (rests : RestsView) (factors : List ℕ) (factor : ℕ) (read : IsSeriesRead s t p table rests factors factor) where
   pub is_table : BestPitsAreNested → (rows : List ShellRow) (text : List ℕ) → AreRowsOf (mine_at rests.pairs table) factors rows → text ≡ shell_table_text rows → IsShellTable s t p text
   is_table law rows text are spelled = record {
     size = rests.blocks;
@@ -93,25 +93,25 @@ module _ (s t : List ℕ) (p : PrecedenceBy) (table : PricesView) (rests : Rests
   said : (k : ℕ) → Contains factors k → Contains (factors_said s) k
   said k c = subst (λ (fs : List ℕ). Contains fs k) read.factors_are c
 
-  pub is_no_table : (effort : Effort) (factor : ℕ) (why : Unsolved) (net : NetView) (text : List ℕ) → Contains factors factor → IsNetAt scaled_block rests.pairs table factor net → NotSolvedStands net effort why → IsLineOf factor why text → IsNoTable s t p effort text
-  is_no_table effort factor why net text c at stands spelled = record {
-    factor = factor;
-    said = said factor c;
+  pub is_no_table : (effort : Effort) (k : ℕ) (why : Unsolved) (net : NetView) (text : List ℕ) → Contains factors k → IsNetAt scaled_block rests.pairs table k net → NotSolvedStands net effort why → IsLineOf k why text → IsNoTable s t p effort text
+  is_no_table effort k why net text c at stands spelled = record {
+    factor = k;
+    said = said k c;
     net = net;
-    by = net_by s t p table rests read.mine factor net at;
+    by = net_by s t p table rests read.mine k net at;
     why = why;
     stands = stands;
     spelled = spelled;
   }
 
   -- an amount of the mine doesn't fit at a factor
-  no_net : (factor : ℕ) (fault : NetFault) → Contains factors factor → ModelFails (texts_by s t p factor) rests.blocks shell_group fault → NoNetAt s t p fault
-  no_net factor fault c m = record { factor = factor; said = said factor c; size = rests.blocks; mine = read.mine.mine factor; stands = m }
+  no_net : (k : ℕ) (fault : NetFault) → Contains factors k → ModelFails (texts_by s t p k) rests.blocks shell_group fault → NoNetAt s t p fault
+  no_net k fault c m = record { factor = k; said = said k c; size = rests.blocks; mine = read.mine.mine k; stands = m }
 
-  pub no_net_answer : (factor : ℕ) (fault : NetFault) → Contains factors factor × WorthsFaultStands scaled_block rests.blocks (worths_at table factor) fault → ShellsFail s t p (of_model fault)
-  no_net_answer factor net_fault.WrongLength h = no_net factor net_fault.WrongLength h.0 (net_fails s t p table rests read.mine factor net_fault.WrongLength h.1)
-  no_net_answer factor net_fault.TooLarge h = no_net factor net_fault.TooLarge h.0 (net_fails s t p table rests read.mine factor net_fault.TooLarge h.1)
-  no_net_answer factor net_fault.NoMemory h = tt
+  pub no_net_answer : (k : ℕ) (fault : NetFault) → Contains factors k × WorthsFaultStands scaled_block rests.blocks (worths_at table k) fault → ShellsFail s t p (of_model fault)
+  no_net_answer k net_fault.WrongLength h = no_net k net_fault.WrongLength h.0 (net_fails s t p table rests read.mine k net_fault.WrongLength h.1)
+  no_net_answer k net_fault.TooLarge h = no_net k net_fault.TooLarge h.0 (net_fails s t p table rests read.mine k net_fault.TooLarge h.1)
+  no_net_answer k net_fault.NoMemory h = tt
 
   -- what is answered where there is no series, whatever such an answer and such a fault are said to mean
   module _ (effort : Effort) (A : Verdict → List ℕ → List ℕ → Type 0) (F : EngineFault → Type 0) (no : (text : List ℕ) → IsNoTable s t p effort text → A No [] text) (memory : F engine.Memory) (thread : F engine.Thread) (stranger : F engine.Stranger)

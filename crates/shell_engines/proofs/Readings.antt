@@ -10,14 +10,14 @@ use Rattle.settings_file.specs.declared.settings_fault.SettingsFault.TheVariants
 use Rattle.settings_file.specs.Settings.{SettingsView, settings_of, is_said, names_mill, first_missing}
 use Rattle.settings_file.proofs.Known.{settings_are}
 use Rattle.settings_file.proofs.MissingKeys.{none_missing}
-use Rattle.shells.specs.Prices.{PricesView, NoRevenueNegative, priced_count}
+use Rattle.shells.specs.Prices.{PricesView, NoRevenueNegative}
 use Rattle.mine_inputs.specs.declared.engine_fault.EngineFault.{EngineFault}
 use Rattle.mine_inputs.specs.declared.engine_fault.EngineFault.TheVariants as engine
 use Rattle.mine_inputs.specs.declared.engine_fault.Problem.{Problem}
 use Rattle.mine_inputs.specs.declared.engine_fault.Problem.TheVariants as problem
 use Rattle.mine_inputs.specs.declared.columns_of_prices.PriceColumns.{PriceColumns}
-use Rattle.mine_inputs.specs.Prelude.{PrecedenceBy, by_slopes, by_text, is_sloped, texts_by, price_keys, unused_by, SettingsFails, ReadsSettingsText, SettingsReadFails, BlocksReadFails, IsMissing, ReadsBlocks, ModelPricesFail, PairsSaidFail, SlopesRead, ArePairsBy, MineFails, PricedMineFails, ArePricesRead, AreSlopedTexts, column_after, columns_beside, columns_said, first_columns, place_beside, region_columns, rests_said, sloped_keys, sloped_texts}
-use Rattle.shell_engines.specs.SeriesTexts.{series_keys, KeysKnown, IsSeriesRead, SeriesMineFails}
+use Rattle.mine_inputs.specs.Prelude.{PrecedenceBy, by_slopes, by_text, is_sloped, price_keys, unused_by, SettingsFails, ReadsSettingsText, SettingsReadFails, BlocksReadFails, IsMissing, ReadsBlocks, ModelPricesFail, PairsSaidFail, SlopesRead, ArePairsBy, MineFails, PricedMineFails, ArePricesRead, AreSlopedTexts, column_after, columns_beside, columns_said, first_columns, place_beside, region_columns, rests_said, sloped_keys, sloped_texts}
+use Rattle.shell_engines.specs.SeriesTexts.{series_keys, factor_by, KeysKnown, IsSeriesRead, SeriesMineFails}
 use Rattle.mine_inputs.proofs.MineDevices.{always, under, under2}
 use Rattle.mine_inputs.proofs.PriceKeys.{prices_and_others, prices_with_others}
 use Rattle.mine_inputs.proofs.PricedAnswers.{key_missing, keys_said, settings_refused}
@@ -68,9 +68,11 @@ factors_refused_at : (s b : List ℕ) (p : PrecedenceBy) (said : SettingsView) (
 factors_refused_at s b p said e whole (inl is) = subst (λ (f : EngineFault). SeriesMineFails s b p f) (sym is) tt
 factors_refused_at s b p said e whole (inr m) = absurd (never _ m.0 (keys_apart (is_sloped p) said whole).1 m.2)
 
-mine_read_at : (s b : List ℕ) (p : PrecedenceBy) (said : SettingsView) (table : PricesView) (rests : RestsView) (factors : List ℕ) → ReadsSettingsText (unused_by (is_sloped p)) s said → KeysKnown (is_sloped p) s → factors ≡ unwrap_or said.factors []
-    → ArePricesRead s b p table rests → IsSeriesRead s b p table rests factors
-mine_read_at s b p said table rests factors a keys is h = record { mine = h; keys = keys; factors_are = is ∙ ap (λ (v : SettingsView). unwrap_or v.factors []) (sym (settings_are s said a.1)) }
+mine_read_at : (s b : List ℕ) (p : PrecedenceBy) (said : SettingsView) (table : PricesView) (rests : RestsView) (factors : List ℕ) (factor : ℕ) → ReadsSettingsText (unused_by (is_sloped p)) s said → KeysKnown (is_sloped p) s → factors ≡ unwrap_or said.factors [] → factor ≡ factor_by said
+    → ArePricesRead s b p table rests → IsSeriesRead s b p table rests factors factor
+mine_read_at s b p said table rests factors factor a keys is at h =
+    let same = sym (settings_are s said a.1) in
+    record { mine = h; keys = keys; factors_are = is ∙ ap (λ (v : SettingsView). unwrap_or v.factors []) same; factor_is = at ∙ ap factor_by same }
 
 -- ---- a precedence of its own: readers that tell their bytes
 
@@ -107,10 +109,10 @@ pub mine_fails : (o q r : Option (List ℕ)) (said : SettingsView) (e : EngineFa
 mine_fails (Some s) (Some b) (Some p) said e a whole h = mine_fails_at s b p e (keys_known (by_text p) s said a whole) h
 mine_fails o q r said e a whole h = tt
 
-pub mine_read : (o q r : Option (List ℕ)) (said : SettingsView) (table : PricesView) (rests : RestsView) (factors : List ℕ) → IfSome o (λ s. ReadsSettingsText (unused_by false) s said) → first_missing (series_keys false said) said ≡ None → factors ≡ unwrap_or said.factors []
-    → IfSome o (λ s. IfSome q (λ b. IfSome r (λ p. ArePricesRead s b (by_text p) table rests))) → IfSome o (λ s. IfSome q (λ b. IfSome r (λ p. IsSeriesRead s b (by_text p) table rests factors)))
-mine_read (Some s) (Some b) (Some p) said table rests factors a whole is h = mine_read_at s b (by_text p) said table rests factors a (keys_known (by_text p) s said a whole) is h
-mine_read o q r said table rests factors a whole is h = tt
+pub mine_read : (o q r : Option (List ℕ)) (said : SettingsView) (table : PricesView) (rests : RestsView) (factors : List ℕ) (factor : ℕ) → IfSome o (λ s. ReadsSettingsText (unused_by false) s said) → first_missing (series_keys false said) said ≡ None → factors ≡ unwrap_or said.factors [] → factor ≡ factor_by said
+    → IfSome o (λ s. IfSome q (λ b. IfSome r (λ p. ArePricesRead s b (by_text p) table rests))) → IfSome o (λ s. IfSome q (λ b. IfSome r (λ p. IsSeriesRead s b (by_text p) table rests factors factor)))
+mine_read (Some s) (Some b) (Some p) said table rests factors factor a whole is at h = mine_read_at s b (by_text p) said table rests factors factor a (keys_known (by_text p) s said a whole) is at h
+mine_read o q r said table rests factors factor a whole is at h = tt
 
 -- ---- slopes in its place
 
@@ -170,14 +172,14 @@ module _ (o q : Option (List ℕ)) where
             sloped_pairs_refused e f = under2 o q (λ s b. AreSlopedTexts s b said columns m) (λ s b. SeriesMineFails s b by_slopes e) texts (λ s b t.
                 sloped_fails_at s b e (known_of s b m t) (λ k. slopes_fail s b said columns m t prices is positive k e (subst (λ i. PairsSaidFail said (placed i) e) at f)))
 
-            pub sloped_series_read : (rests : RestsView) (factors : List ℕ) → factors ≡ unwrap_or said.factors []
+            pub sloped_series_read : (rests : RestsView) (factors : List ℕ) (factor : ℕ) → factors ≡ unwrap_or said.factors [] → factor ≡ factor_by said
                 → (rests.blocks ≡ m.blocks) × SlopesRead said (narrowed (column_after others said.region) m) × ArePairsBy (rests_said said (narrowed (column_after others said.region) m)) rests.pairs
-                → ForSloped (λ s b. IsSeriesRead s b by_slopes prices rests factors)
-            sloped_series_read rests factors same found =
+                → ForSloped (λ s b. IsSeriesRead s b by_slopes prices rests factors factor)
+            sloped_series_read rests factors factor same reported found =
                 let F : ℕ → Type 0 = λ i. (rests.blocks ≡ m.blocks) × SlopesRead said (placed i) × ArePairsBy (rests_said said (placed i)) rests.pairs in
                 let g : F (place_beside columns) = subst F at found in
-                under2 o q (λ s b. AreSlopedTexts s b said columns m) (λ s b. IsSeriesRead s b by_slopes prices rests factors) texts (λ s b t.
-                mine_read_at s b by_slopes said prices rests factors t.settings_read (known_of s b m t) same (pairs_found s b said columns m t prices is positive rests g.0 g.1 g.2))
+                under2 o q (λ s b. AreSlopedTexts s b said columns m) (λ s b. IsSeriesRead s b by_slopes prices rests factors factor) texts (λ s b t.
+                mine_read_at s b by_slopes said prices rests factors factor t.settings_read (known_of s b m t) same reported (pairs_found s b said columns m t prices is positive rests g.0 g.1 g.2))
 
 -- ---- either
 

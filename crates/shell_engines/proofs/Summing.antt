@@ -1,6 +1,6 @@
 -- Sums of worths that don't fit 128 bits, and what a call that may give none says.
 use Rattle.std.specs.Prelude.{IfNone, IfSome}
-use Rattle.fixed_worth.proofs.Common.{◌≡◌, ℕ, ℤ, suc, ◌<◌, ◌≤◌, ◌+ℤ◌, All, List, length, get_or, Option, Some, None, FitsSigned, w128, inl, inr, sym, subst, arith}
+use Rattle.fixed_worth.proofs.Common.{◌≡◌, ℕ, ℤ, suc, ◌<◌, ◌+ℤ◌, All, List, length, get_or, Option, Some, None, FitsSigned, w128, inl, inr, sym, subst, arith}
 use Rattle.ordered_group.specs.Sets.{worth_in}
 use Rattle.closure_net.specs.Network.{IsAscending}
 use Rattle.shells.specs.Prelude.{PricesView, priced_count, worth_at}

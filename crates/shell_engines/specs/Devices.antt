@@ -4,6 +4,7 @@ use Rattle.std.specs.Prelude.{◌≡◌, ℕ, ◌+◌, ◌-◌, ◌^◌, ◌<◌
 use Rattle.mine_inputs.specs.Mines.{PrecedenceBy, by_slopes, by_text}
 use Rattle.shell_engines.specs.declared.series_inputs.SeriesInputs.{SeriesInputs}
 use Rattle.shell_engines.specs.declared.series_outputs.SeriesOutputs.{SeriesOutputs}
+use Rattle.shell_engines.specs.declared.series_outputs.Wanted.{Wanted}
 
 -- the failures that a device has counted, which may be there
 abbrev pub failures_in : {V : Type 0} → Option V → (V → ℕ) → ℕ
@@ -45,6 +46,10 @@ NoInputFailed old new failed = (failed new.settings ≡ failed old.settings) × 
 abbrev pub is_asked : {V : Type 0} → Option V → Bool
 is_asked None = false
 is_asked (Some device) = true
+
+-- what is wanted beside the answer: the table of blocks where there is a device for it, and ways where they are asked for
+abbrev pub wanted_by : {V W : Type 0} → SeriesOutputs V W → Wanted
+wanted_by outputs = record { table = is_asked outputs.by_block; ways = outputs.ways }
 
 -- the bytes of a device that may be there; nothing is told of one that isn't
 abbrev pub contents_in : {V : Type 0} → Option V → (V → Option (List ℕ)) → Option (List ℕ)

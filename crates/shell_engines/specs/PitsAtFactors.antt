@@ -3,8 +3,8 @@ use Rattle.std.specs.Prelude.{◌≡◌, ℕ, ℤ, ◌++◌, ◌∷◌, [], Bool
 use Rattle.ordered_group.specs.Amount.{Amount}
 use Rattle.prec_file.specs.Rests.{RestsView}
 use Rattle.engines.specs.declared.effort.Effort.{Effort}
-use Rattle.shells.specs.Prelude.{PricesView, priced_count, SeriesView, mine_at, shell_at}
-use Rattle.bench_report.specs.BlockShells.{block_table_text}
+use Rattle.shells.specs.Prelude.{PricesView, priced_count, way_at, SeriesView, mine_at, shell_at}
+use Rattle.bench_report.specs.BlockShells.{blocks_text}
 use Rattle.closure_net.specs.Prelude.{NetView, holds_of, Mine, IsNetOf, IsBest}
 use Rattle.shell_engines.specs.declared.best_pits.BestPit.{BestPit}
 use Rattle.mine_inputs.specs.declared.engine_fault.EngineFault.{EngineFault}
@@ -60,7 +60,8 @@ IsFaultOf (none.Unsolved factor why) e = IsWant why e
 IsFaultOf (none.Model factor fault) e = e ≡ of_model fault
 IsFaultOf none.Memory e = e ≡ engine.Memory
 
--- the text has the shell of each block of a series where that is asked for, and otherwise it is empty
-abbrev pub HasTableIfAsked : Bool → SeriesView → List ℕ → Type 0
-HasTableIfAsked true series text = text ≡ block_table_text (shell_at series.shells) (priced_count series.prices)
-HasTableIfAsked false series text = text ≡ []
+-- the text has the shell of each block of a series where that is asked for (true), with its way at a factor where ways are; and
+-- otherwise it is empty
+abbrev pub HasTableIfAsked : (asked ways : Bool) → ℕ → SeriesView → List ℕ → Type 0
+HasTableIfAsked true ways factor series text = text ≡ blocks_text ways (shell_at series.shells) (way_at series.prices factor) (priced_count series.prices)
+HasTableIfAsked false ways factor series text = text ≡ []

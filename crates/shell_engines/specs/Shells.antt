@@ -12,11 +12,12 @@ use Rattle.mine_inputs.specs.Mines.{PrecedenceBy, is_sloped, texts_by, DenoteMin
 use Rattle.engines.specs.Prelude.{ModelFails, IsNetBy}
 use Rattle.engines.specs.declared.solvers.Unsolved.{Unsolved}
 use Rattle.shell_engines.specs.declared.shell_rows.ShellRow.{ShellRow}
+use Rattle.shell_engines.specs.declared.series_outputs.Wanted.{Wanted}
 use Rattle.shell_engines.specs.SettledSeries.{NotSolvedStands}
 use Rattle.shell_engines.specs.Answering.{FailsBy, Ends}
 use Rattle.shell_engines.specs.ShellTable.{AreRowsOf, shell_table_text, IsLineOf}
 use Rattle.shell_engines.specs.SeriesTexts.{KeysKnown, factors_said, SeriesMineFails}
-use Rattle.shell_engines.specs.BlockTables.{mine_at_factor, IsTableIfAsked}
+use Rattle.shell_engines.specs.BlockTables.{mine_at_factor, IsTableWanted}
 
 -- the amounts in which each flow is checked: worth and the count of blocks in one number
 abbrev pub shell_group : Group
@@ -53,10 +54,10 @@ pub record IsNoTable (settings blocks : List ℕ) (precedence : PrecedenceBy) (e
   pub stands : NotSolvedStands net effort why
   pub spelled : IsLineOf factor why text
 
--- the table of blocks, which may be asked for, and the text that answer for them
-abbrev pub AnswersShells : List ℕ → List ℕ → PrecedenceBy → Effort → Bool → Verdict → List ℕ → List ℕ → Type 0
-AnswersShells settings blocks precedence effort asked Done table text = IsShellTable settings blocks precedence text × IsTableIfAsked asked settings blocks precedence table
-AnswersShells settings blocks precedence effort asked No table text = IsNoTable settings blocks precedence effort text × (table ≡ [])
+-- the table of blocks, where one is wanted, and the text that answer for them
+abbrev pub AnswersShells : List ℕ → List ℕ → PrecedenceBy → Effort → Wanted → Verdict → List ℕ → List ℕ → Type 0
+AnswersShells settings blocks precedence effort wanted Done table text = IsShellTable settings blocks precedence text × IsTableWanted wanted settings blocks precedence table
+AnswersShells settings blocks precedence effort wanted No table text = IsNoTable settings blocks precedence effort text × (table ≡ [])
 
 -- at one of the factors of the settings an amount of the mine's doesn't fit
 pub record NoNetAt (settings blocks : List ℕ) (precedence : PrecedenceBy) (fault : NetFault) : Type 0 where
@@ -71,5 +72,5 @@ abbrev pub ShellsFail : List ℕ → List ℕ → PrecedenceBy → EngineFault �
 ShellsFail settings blocks precedence = FailsBy (SeriesMineFails settings blocks precedence) (DenoteSeries settings blocks precedence) (NoNetAt settings blocks precedence)
 
 -- the answer, and what was written with it
-abbrev pub Shells : List ℕ → List ℕ → PrecedenceBy → Effort → Bool → Option (List ℕ) → Option (List ℕ) → Option (List ℕ) → Option (List ℕ) → Result Verdict EngineFault → Type 0
-Shells settings blocks precedence effort asked = Ends (AnswersShells settings blocks precedence effort asked) (ShellsFail settings blocks precedence)
+abbrev pub Shells : List ℕ → List ℕ → PrecedenceBy → Effort → Wanted → Option (List ℕ) → Option (List ℕ) → Option (List ℕ) → Option (List ℕ) → Result Verdict EngineFault → Type 0
+Shells settings blocks precedence effort wanted = Ends (AnswersShells settings blocks precedence effort wanted) (ShellsFail settings blocks precedence)

@@ -1,25 +1,49 @@
-//! Gives the table of blocks and their shells as a text where it is asked for, and else nothing.
+//! Gives the table of blocks and their shells as a text where it is wanted, and else nothing.
 
-ghost use Rattle.std.specs.Prelude.{IfOk, OnOk};
+ghost use Rattle.std.specs.Prelude.{true, IfOk, OnOk};
 ghost use Rattle.shells.specs.Series.{IsSeries};
 ghost use Rattle.shell_engines.specs.PitsAtFactors.{HasTableIfAsked};
 
-use bench_report::block_shells_text;
-use shells::Series;
+use crate::series_outputs::Wanted;
+use bench_report::{block_shells_text, block_ways_text};
+use shells::{Factor, Series};
 use std::alloc::{AllocError, Global};
 
-/// The text of the shell of each block of a series; nothing where it isn't asked for.
+// The text of the shell of each block of a series, with its way at a factor where ways are asked for.
+fn table_of_blocks(
+    alloc: Global,
+    ways: bool,
+    factor: Factor,
+    series: &Series,
+) -> Result<Vec<u8>, AllocError>
+    ensures { IfOk result (λ text. HasTableIfAsked true ways factor series.now text.items) }
+{
+    if ways {
+        block_ways_text(alloc, series, factor)
+    } else {
+        block_shells_text(alloc, series)
+    }
+}
+
+/// The text of the shell of each block of a series, with its way at the factor of the report where ways are wanted; nothing
+/// where the table isn't.
 ///
 /// # Errors
 /// Memory was refused.
-pub fn table_if_asked(alloc: Global, is_asked: bool, series: &Series) -> Result<Vec<u8>, AllocError>
-    ensures table { IfOk result (λ text. HasTableIfAsked is_asked series.now text.items) }
+pub fn table_if_asked(
+    alloc: Global,
+    wanted: Wanted,
+    factor: Factor,
+    series: &Series,
+) -> Result<Vec<u8>, AllocError>
+    ensures table { IfOk result
+        (λ text. HasTableIfAsked wanted.table wanted.ways factor series.now text.items) }
     ensures series { OnOk result (IsSeries series.now) }
 {
     // proof: what every series is
     let _factors = series.factors();
-    if is_asked {
-        block_shells_text(alloc, series)
+    if wanted.table {
+        table_of_blocks(alloc, wanted.ways, factor, series)
     } else {
         Ok(Vec::new(alloc))
     }

@@ -5,7 +5,7 @@
 //! takes nothing but best pits, and on `bench_report` for the table of blocks and their shells. Promises upward, over the
 //! bytes of the texts: where `shells_engine` answers `Done` it wrote the row of the best pit at each factor of the
 //! settings, and the pits lie one within the next (Lerchs and Grossmann, 1965, make the phases of a mine so); and where
-//! the table is asked for, the first factor whose best pit holds each block.
+//! the table is asked for, the first factor whose best pit holds each block, and which way it goes.
 #![tactic(auto)]
 
 mod best_pits;

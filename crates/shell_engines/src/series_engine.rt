@@ -3,7 +3,7 @@
 
 ghost use Rattle.std.specs.Prelude.{◌≡◌, ℕ, List, [], ◌+◌, MatchResult, IsErrOf};
 ghost use Rattle.mine_inputs.specs.Mines.{PrecedenceBy};
-ghost use Rattle.shell_engines.specs.Devices.{ForSeries, InputsCanCount, OutputsCanCount, input_failures, output_failures, NoInputFailed, NoOutputFailed, is_asked, contents_in};
+ghost use Rattle.shell_engines.specs.Devices.{ForSeries, InputsCanCount, OutputsCanCount, input_failures, output_failures, NoInputFailed, NoOutputFailed, contents_in, wanted_by};
 ghost use Rattle.shell_engines.specs.ShellTable.{IsLineOf};
 ghost use Rattle.shell_engines.specs.SeriesTexts.{IsSeriesRead};
 ghost use Rattle.shell_engines.specs.Shells.{AnswersShells, ShellsFail, Shells};
@@ -12,7 +12,7 @@ ghost use Rattle.shell_engines.specs.PitsAtFactors.{IsWant, TellsWhy, IsFaultOf}
 use crate::block_tables::table_if_asked;
 use crate::no_series::NoSeries;
 use crate::series_inputs::{SeriesInputs, SeriesMine, series_mine_from};
-use crate::series_outputs::{Answer, SeriesOutputs, send};
+use crate::series_outputs::{Answer, SeriesOutputs, Wanted, send};
 use crate::series_progress::SeriesProgress;
 use crate::settled_series::settle;
 use crate::shell_rows::table_of;
@@ -29,7 +29,8 @@ use workers::Gate;
 
 /// Draws the shells of the mine of settings, blocks and a precedence: a line for each factor of the settings,
 /// `SHELL factor blocks worth`, with what the best pit at that factor has. Where the table of blocks is asked for, it is
-/// written first: a line for each block with the first factor whose best pit holds it.
+/// written first: a line for each block with the first factor whose best pit holds it, and where ways are wanted too, with
+/// its way at the factor of the report: the settings' key `report`, or else the last of the factors.
 ///
 /// `Done` where the lines were written: each pit was checked with a flow that proves it, and added to a series, before
 /// anything was written; of two of them the one at the lower factor lies within the other. `No` where at a factor no
@@ -63,7 +64,7 @@ pub fn shells_engine<
 
     // What it answers and writes, where the readers tell their bytes.
     ensures answer { ForSeries inputs.old D.remaining
-        (λ s b p. Shells s b p effort (is_asked outputs.old.by_block)
+        (λ s b p. Shells s b p effort (wanted_by outputs.old)
         (contents_in outputs.old.by_block V.contents) (contents_in outputs.new.by_block V.contents)
         (W.contents outputs.old.out) (W.contents outputs.new.out) result) }
 
@@ -76,8 +77,8 @@ pub fn shells_engine<
         × NoOutputFailed outputs.old outputs.new V.failed W.failed }
 {
     let mine = series_mine_from(alloc, inputs)?;
-    let is_asked = outputs.has_table();
-    let answer = answer_of(rt, alloc, mine, effort, gate, is_asked)?;
+    let wanted = outputs.wanted();
+    let answer = answer_of(rt, alloc, mine, effort, gate, wanted)?;
     send(&answer, outputs)
 }
 
@@ -88,23 +89,25 @@ fn answer_of<R: Threads + Wait + Sync, T: Gate + Progress + SeriesProgress>(
     mine: SeriesMine,
     effort: Effort,
     gate: &T,
-    is_asked: bool,
+    wanted: Wanted,
 ) -> Result<Answer, EngineFault>
     ensures answer { (s b : List ℕ) (p : PrecedenceBy)
-        → IsSeriesRead s b p mine.prices mine.predecessors mine.factors.items → MatchResult result
-        (λ a. AnswersShells s b p effort is_asked a.verdict a.table.items a.text.items)
+        → IsSeriesRead s b p mine.prices mine.predecessors mine.factors.items mine.factor
+        → MatchResult result
+        (λ a. AnswersShells s b p effort wanted a.verdict a.table.items a.text.items)
         (λ e. ShellsFail s b p e) }
     ensures no_device { ¬ IsErrOf result EngineFault.Device }
 {
     // proof: of two factors, the best pit at the lower one lies within that at the other
     laws::best_pits_at_factors_are_nested();
+    let factor = mine.factor;
     let shells = match settle(rt, alloc, mine, effort, gate) {
         Ok(shells) => shells,
         Err(none) => return no_series(alloc, none),
     };
     Ok(Answer {
         verdict: Verdict::Done,
-        table: table_if_asked(alloc, is_asked, &shells.series)?,
+        table: table_if_asked(alloc, wanted, factor, &shells.series)?,
         text: table_of(alloc, shells.rows.as_slice())?,
     })
 }

@@ -1,14 +1,14 @@
 //! Reads settings and blocks, and predecessors where a text of their own lists them: gives a mine with prices and the
 //! factors at which its shells are drawn, or the first fault of an input.
 
-ghost use Rattle.std.specs.Prelude.{◌≡◌, ◌≤◌, ◌<◌, ◌+◌, ◌-◌, ◌^◌, ◌⊎◌, ◌∷◌, [], None, unwrap_or, All, IfOk, IfErr, IfSome, MatchResult, IsErrOf};
+ghost use Rattle.std.specs.Prelude.{◌≡◌, ◌≤◌, ◌<◌, ◌+◌, ◌-◌, ◌^◌, ◌⊎◌, ◌∷◌, [], None, length, unwrap_or, All, IfOk, IfErr, IfSome, MatchResult, IsErrOf};
 ghost use Rattle.settings_file.specs.Settings.{first_missing};
 ghost use Rattle.settings_file.specs.Values.{AreFactors};
 ghost use Rattle.shells.specs.Prices.{priced_count};
 ghost use Rattle.mine_inputs.specs.Inputs.{IsMissing};
 ghost use Rattle.mine_inputs.specs.Mines.{by_text, by_slopes};
 ghost use Rattle.shell_engines.specs.Devices.{ForSeries, InputsCanCount, input_failures, is_without, NoInputFailed};
-ghost use Rattle.shell_engines.specs.SeriesTexts.{IsSeriesRead, SeriesMineFails};
+ghost use Rattle.shell_engines.specs.SeriesTexts.{IsSeriesRead, SeriesMineFails, factor_by};
 
 use engines::EngineFault;
 use fixed_worth::{CountedRead, MOST_FACTOR};
@@ -54,6 +54,8 @@ pub struct SeriesMine {
     pub predecessors: Predecessors,
     /// The factors, rising.
     pub factors: Vec<Factor>,
+    /// The factor of the report, at which ways and worths are told.
+    pub factor: Factor,
     ghost form: { AreFactors factors.items },
     ghost sizes: { predecessors.blocks ≡ priced_count prices },
 }
@@ -92,6 +94,21 @@ pub fn factors_of(alloc: Global, settings: &Settings) -> Result<Vec<Factor>, Eng
     }
 }
 
+/// The factor of the report: the one that the settings name, or else the last of the factors.
+pub fn factor_of(settings: &Settings, factors: &[Factor]) -> Factor
+    requires some { 1 ≤ length factors.now }
+    requires are { factors.now ≡ unwrap_or settings.now.factors [] }
+    ensures { result ≡ factor_by settings.now }
+{
+    match settings.report() {
+        Some(thousandths) => match Factor::new(thousandths) {
+            Some(factor) => factor,
+            None => unreachable!(),
+        },
+        None => factors[factors.len() - 1],
+    }
+}
+
 // The mine whose precedence is a text of its own.
 fn listed_series<D: CountedRead>(
     alloc: Global,
@@ -104,7 +121,8 @@ fn listed_series<D: CountedRead>(
     requires prec_room { D.failed prec.old < 2 ^ 64 - 1 }
     ensures read { IfSome (D.remaining settings.old) (λ s. IfSome (D.remaining blocks.old) (λ b.
         IfSome (D.remaining prec.old) (λ p. MatchResult result
-        (λ mine. IsSeriesRead s b (by_text p) mine.prices mine.predecessors mine.factors.items)
+        (λ mine. IsSeriesRead s b (by_text p) mine.prices mine.predecessors mine.factors.items
+        mine.factor)
         (SeriesMineFails s b (by_text p))))) }
     ensures device { IsErrOf result EngineFault.Device
         → D.failed settings.new + D.failed blocks.new + D.failed prec.new
@@ -117,12 +135,14 @@ fn listed_series<D: CountedRead>(
     let settings = priced_settings_from(alloc, settings)?;
     let columns = price_columns(&settings, &[Key::Factors])?;
     let factors = factors_of(alloc, &settings)?;
+    let factor = factor_of(&settings, factors.as_slice());
     let prices = prices_from(alloc, blocks, &columns)?;
     let predecessors = predecessors_from(alloc, prec, prices.len())?;
     Ok(SeriesMine {
         prices,
         predecessors,
         factors,
+        factor,
     })
 }
 
@@ -136,7 +156,8 @@ fn sloped_series<D: CountedRead>(
     requires blocks_room { D.failed blocks.old < 2 ^ 64 - 1 }
     ensures read { IfSome (D.remaining settings.old) (λ s. IfSome (D.remaining blocks.old) (λ b.
         MatchResult result
-        (λ mine. IsSeriesRead s b by_slopes mine.prices mine.predecessors mine.factors.items)
+        (λ mine. IsSeriesRead s b by_slopes mine.prices mine.predecessors mine.factors.items
+        mine.factor)
         (SeriesMineFails s b by_slopes))) }
     ensures device { IsErrOf result EngineFault.Device
         → D.failed settings.new + D.failed blocks.new
@@ -148,6 +169,7 @@ fn sloped_series<D: CountedRead>(
     let settings = settings_from(alloc, settings, &[])?;
     let columns = price_columns(&settings, &[Key::Slopes, Key::Factors])?;
     let factors = factors_of(alloc, &settings)?;
+    let factor = factor_of(&settings, factors.as_slice());
     let model = regional_blocks_from(alloc, blocks, &columns, settings.region())?;
     let prices = prices_of(alloc, &model, &columns)?;
     // proof: no revenue of prices is negative
@@ -158,6 +180,7 @@ fn sloped_series<D: CountedRead>(
         prices,
         predecessors,
         factors,
+        factor,
     })
 }
 
@@ -173,7 +196,8 @@ pub fn series_mine_from<D: CountedRead>(
 ) -> Result<SeriesMine, EngineFault>
     requires { InputsCanCount inputs.old D.failed }
     ensures read { ForSeries inputs.old D.remaining (λ s b p. MatchResult result
-        (λ mine. IsSeriesRead s b p mine.prices mine.predecessors mine.factors.items)
+        (λ mine. IsSeriesRead s b p mine.prices mine.predecessors mine.factors.items
+        mine.factor)
         (SeriesMineFails s b p)) }
     ensures device { IsErrOf result EngineFault.Device
         → input_failures inputs.new D.failed ≡ input_failures inputs.old D.failed + 1 }

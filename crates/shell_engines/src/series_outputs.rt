@@ -5,7 +5,7 @@ ghost use Rattle.std.specs.Prelude.{◌≡◌, ◌+◌, ◌-◌, ◌^◌, ◌<�
 ghost use Rattle.std.specs.Io.KnownBytes.{Appends};
 ghost use Rattle.fixed_worth.specs.Device.{ReceivedPrefix};
 ghost use Rattle.shell_engines.specs.Answering.{IsCutShort};
-ghost use Rattle.shell_engines.specs.Devices.{is_asked, contents_in, failures_in, OutputsCanCount, output_failures, NoOutputFailed};
+ghost use Rattle.shell_engines.specs.Devices.{is_asked, contents_in, failures_in, OutputsCanCount, output_failures, NoOutputFailed, wanted_by};
 
 use engines::{EngineFault, Verdict};
 use fixed_worth::{CountedWrite, WriteFault, write_text};
@@ -17,11 +17,32 @@ pub struct SeriesOutputs<V, W> {
     pub by_block: Option<V>,
     /// What the answer is written to.
     pub out: W,
+    /// Whether it is wanted which way each block goes.
+    pub ways: bool,
+}
+
+/// What is wanted beside the lines of an answer.
+#[derive(Clone, Copy, Debug, PartialEq, Eq)]
+pub struct Wanted {
+    /// The table of blocks and their shells.
+    pub table: bool,
+    /// Which way each block goes at the factor of the report.
+    pub ways: bool,
 }
 
 impl<V, W> SeriesOutputs<V, W> {
-    /// Whether the table of blocks is asked for.
-    pub fn has_table(&self) -> bool
+    /// What is wanted beside the answer.
+    pub fn wanted(&self) -> Wanted
+        ensures { result ≡ wanted_by self.now }
+    {
+        Wanted {
+            table: self.has_table(),
+            ways: self.ways,
+        }
+    }
+
+    // Whether the table of blocks is asked for.
+    fn has_table(&self) -> bool
         ensures { result ≡ is_asked self.now.by_block }
     {
         match &self.by_block {

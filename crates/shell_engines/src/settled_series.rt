@@ -169,6 +169,7 @@ pub fn settle<R: Threads + Wait + Sync, T: Gate + Progress + SeriesProgress>(
         prices,
         predecessors,
         factors,
+        ..
     } = mine;
     let rests = predecessors.into_rests(alloc)?;
     let series = match Series::open(alloc, rests, prices) {

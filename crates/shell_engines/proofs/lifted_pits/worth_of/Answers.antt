@@ -1,4 +1,4 @@
-use Rattle.fixed_worth.proofs.Common.{◌≡◌, ◌∙◌, ℕ, ◌<◌, length, get_or, inr, subst, to_z, to_z-of_z, FitsSigned, arith, rules, w128, get_or_default}
+use Rattle.fixed_worth.proofs.Common.{◌≡◌, ◌∙◌, length, inr, subst, to_z, to_z-of_z, FitsSigned, arith, rules, w128, get_or_default}
 use Rattle.ordered_group.specs.Sets.{worth_in}
 use Rattle.shells.specs.Prelude.{worth_at}
 use Rattle.sub_mines.specs.Prelude.{every_block, number_in}

@@ -1,4 +1,4 @@
-use Rattle.fixed_worth.proofs.Common.{◌≡◌, ◌∙◌, ℕ, ◌+◌, ◌<◌, List, All, length, get_or, sym, subst, arith, get_or_read}
+use Rattle.fixed_worth.proofs.Common.{◌≡◌, ◌∙◌, ℕ, ◌+◌, ◌<◌, List, All, get_or, sym, subst, arith, get_or_read}
 use Rattle.closure_net.specs.Prelude.{holds_of, IsAscending, IsBest}
 use Rattle.shells.specs.Prelude.{priced_count, mine_at}
 use Rattle.shell_engines.specs.Prelude.{LiesBetweenLists, SumLeaves}

@@ -7,13 +7,13 @@ use Rattle.shell_engines.proofs.series_engine.answer_of.Goals as goal
 pub returns-clause-answer : goal.returns-clause-answer
 returns-clause-answer g c = λ s b p read.
     let mine = c.args.mine in (
-      is_table s b p mine.prices mine.predecessors mine.factors.items read c.best_pits_at_factors_are_nested.ensures c.in-Ok.shells.rows.items c.in_ok-table_of.field-0.items c.in-Ok.ensures.rows_are (c.in_ok-table_of.ensures ∙ ap shell_table_text c.as_slice.ensures.value),
-      has_table s b p mine.prices mine.predecessors mine.factors.items read c.in-Ok.shells.series c.in-Ok.shells.rows.items c.in-Ok.ensures c.in_ok-table_if_asked.ensures.series c.args.is_asked c.in_ok-table_if_asked.field-0.items c.in_ok-table_if_asked.ensures.table,
+      is_table s b p mine.prices mine.predecessors mine.factors.items mine.factor read c.best_pits_at_factors_are_nested.ensures c.in-Ok.shells.rows.items c.in_ok-table_of.field-0.items c.in-Ok.ensures.rows_are (c.in_ok-table_of.ensures ∙ ap shell_table_text c.as_slice.ensures.value),
+      has_table s b p mine.prices mine.predecessors mine.factors.items mine.factor read c.in-Ok.shells.series c.in-Ok.shells.rows.items c.in-Ok.ensures c.in_ok-table_if_asked.ensures.series c.args.wanted.table c.args.wanted.ways c.in_ok-table_if_asked.field-0.items c.in_ok-table_if_asked.ensures.table,
     )
 
 pub returns-in-Err-clause-answer : goal.returns-in-Err-clause-answer
 returns-in-Err-clause-answer g c = λ s b p read.
     let mine = c.args.mine in
-    let d = denoted s b p mine.prices mine.predecessors mine.factors.items read in
-    no_series_answer s b p mine.prices mine.predecessors mine.factors.items read c.args.effort (AnswersShells s b p c.args.effort c.args.is_asked) (ShellsFail s b p) (λ text h. (h, refl)) tt d d (λ fault h. h)
+    let d = denoted s b p mine.prices mine.predecessors mine.factors.items mine.factor read in
+    no_series_answer s b p mine.prices mine.predecessors mine.factors.items mine.factor read c.args.effort (AnswersShells s b p c.args.effort c.args.wanted) (ShellsFail s b p) (λ text h. (h, refl)) tt d d (λ fault h. h)
     c.in-Err.none c.no_series.result c.in-Err.ensures c.no_series.ensures

@@ -50,7 +50,7 @@ returns-clause-read g c =
     let q = g.D.Read.remaining c.args.blocks.now in
     let r = g.D.Read.remaining c.args.prec.now in
     let said = c.in_ok-settings.settings in
-    mine_read o q r said c.in_ok-prices.prices c.in_ok-predecessors.predecessors c.in_ok-factors.factors.items c.in_ok-settings.ensures.read columns.1 c.in_ok-factors.ensures.factors.0
+    mine_read o q r said c.in_ok-prices.prices c.in_ok-predecessors.predecessors c.in_ok-factors.factors.items c.factor_of-factor.result c.in_ok-settings.ensures.read columns.1 c.in_ok-factors.ensures.factors.0 c.factor_of-factor.ensures
     (mine_answer o q r said c.in_ok-prices.prices c.in_ok-predecessors.predecessors c.len.result c.len.ensures.is c.len.ensures.table.revenues (prices_known false said columns.1) c.in_ok-settings.ensures.read
     (prices_said q c.in_ok-columns.columns said c.in_ok-prices.prices columns.0 c.in_ok-prices.ensures.read) c.in_ok-predecessors.ensures.read)
 

@@ -66,4 +66,4 @@ returns-clause-read g c =
     let m = c.in_ok-model.model in
     let blocks = subst (λ (o : Option ℕ). IfSome q (λ b. ReadsBlocks (columns_beside c.in_ok-columns.columns (columns_for o)) b m)) c.region.ensures.value c.in_ok-model.ensures.read in
     sloped_series_read (g.D.Read.remaining c.args.settings.now) q c.in_ok-settings.settings c.in_ok-settings.ensures.read columns.1 c.in_ok-columns.columns columns.0 m blocks
-    c.in_ok-prices.prices c.in_ok-prices.ensures.prices c.len-blocks.ensures.table.revenues c.place_beside-others.result c.place_beside-others.ensures c.in_ok-predecessors.predecessors c.in_ok-factors.factors.items c.in_ok-factors.ensures.factors.0 c.in_ok-predecessors.ensures.pairs
+    c.in_ok-prices.prices c.in_ok-prices.ensures.prices c.len-blocks.ensures.table.revenues c.place_beside-others.result c.place_beside-others.ensures c.in_ok-predecessors.predecessors c.in_ok-factors.factors.items c.factor_of-factor.result c.in_ok-factors.ensures.factors.0 c.factor_of-factor.ensures c.in_ok-predecessors.ensures.pairs
