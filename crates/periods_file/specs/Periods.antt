@@ -1,5 +1,5 @@
 -- What a text says as periods: a TOML document, and what its table has at each key.
-use Rattle.std.specs.Prelude.{◌≡◌, ℕ, Bool, cond, List, [], length, Option, Some, None, Result, Ok, Err, IsUtf8, ◌++◌, codes, option_map}
+use Rattle.std.specs.Prelude.{◌≡◌, ℕ, cond, List, [], length, Option, Some, None, Result, Ok, Err, IsUtf8, ◌++◌, codes, option_map}
 use Rattle.toml.specs.Parse.{parse_document}
 use Rattle.toml.specs.Data.{Data, Members, get_member}
 use Rattle.periods_file.specs.declared.keys.PeriodKey.{PeriodKey}

@@ -1,5 +1,5 @@
 -- A schedule that breaks no pair and uses nowhere more than there is is feasible, and the other way round.
-use Rattle.fixed_worth.proofs.Common.{◌≡◌, ◌↔◌, ℕ, zero, suc, ◌+◌, ◌<◌, ◌≤◌, ℤ, ◌≤ℤ◌, ◌<ℤ◌, Bool, true, false, cond, ◌&&◌, nat_lt, List, [], ◌∷◌, ◌++◌, length, filter, refl, sym, ap, subst, ◌∙◌, arith, ints, inl, inr, Contains, IsTrue, get_or, true≢false, false_from_ne_true, and_parts, and_from, cases_Bool, cases_lt, cases_eq, ltb-true, lt-ltb, add-one, by_lt_z, common_steps, nat_tests}
+use Rattle.fixed_worth.proofs.Common.{◌≡◌, ◌↔◌, ℕ, zero, suc, ◌+◌, ◌<◌, ◌≤◌, ℤ, ◌≤ℤ◌, Bool, true, false, cond, ◌&&◌, nat_lt, List, [], ◌∷◌, ◌++◌, length, filter, refl, sym, ap, ◌∙◌, arith, ints, inl, inr, Contains, get_or, true≢false, false_from_ne_true, and_parts, and_from, cases_lt, cases_eq, ltb-true, lt-ltb}
 use Rattle.std.specs.Prelude.{int_lt}
 use Rattle.prec_file.specs.Rests.{has_pair}
 use Rattle.prec_file.proofs.Pairs.{rests_of_pair, pair_of_rests}

@@ -1,5 +1,5 @@
 -- How large products and sums of figures may be.
-use Rattle.fixed_worth.proofs.Common.{◌≡◌, ℕ, suc, ◌+◌, ◌*◌, ◌<◌, ◌≤◌, ℤ, pos, negsuc, neg_ℤ, ◌+ℤ◌, ◌*ℤ◌, ◌≤ℤ◌, FitsSigned, w128, arith, ints, mul-le}
+use Rattle.fixed_worth.proofs.Common.{ℕ, suc, ◌*◌, ◌≤◌, ℤ, pos, negsuc, neg_ℤ, ◌*ℤ◌, ◌≤ℤ◌, arith, ints, mul-le}
 use Rattle.schedule_value.specs.Bounds.{IsWithin}
 
 -- a worth at a weight

@@ -1,4 +1,4 @@
-use Rattle.fixed_worth.proofs.Common.{◌≡◌, ◌<◌, ◌≤◌, [], ◌∷◌, length, get_or, Some, None, sym, ap, ◌∙◌, rules, drop_all}
+use Rattle.fixed_worth.proofs.Common.{◌≡◌, ◌<◌, ◌≤◌, [], ◌∷◌, length, get_or, Some, None, sym, ap, rules, drop_all}
 use Rattle.toml.specs.View.{view}
 use Rattle.periods_file.specs.Prelude.{alone, number_row, whole_value_within}
 use Rattle.periods_file.proofs.ReadRows.{row-next, row-bad, row-end}

@@ -1,4 +1,4 @@
-use Rattle.std.proofs.Common.{◌≡◌, ◌∙◌, Some, None, sym, ap, rules, length}
+use Rattle.std.proofs.Common.{◌≡◌, ◌∙◌, Some, None, sym, ap, rules}
 use Rattle.toml.specs.View.{view}
 use Rattle.toml.proofs.Views.{table_get}
 use Rattle.periods_file.specs.Prelude.{value_said, or_bad, or_none, rows_of}

@@ -1,8 +1,7 @@
-use Rattle.fixed_worth.proofs.Common.{rules, ◌≡◌, ℕ, List, [], length, nat_lt, FitsSigned, w128, to_z-of_z, refl, sym, ap, ap₂, ◌∙◌, subst}
+use Rattle.fixed_worth.proofs.Common.{rules, ◌≡◌, ℕ, nat_lt, FitsSigned, w128, to_z-of_z, refl, sym, ap₂, ◌∙◌, subst}
 use Rattle.ordered_group.specs.Sets.{count_in}
 use Rattle.production_figures.specs.Figures.{production_of}
-use Rattle.schedule_value.specs.declared.usage.Over.{Over}
-use Rattle.schedule_value.specs.Prelude.{AreBroken, broken_pairs, overs_in_rows, period_by}
+use Rattle.schedule_value.specs.Prelude.{AreBroken, overs_in_rows, period_by}
 use Rattle.schedule_value.proofs.Feasible.{lagged_iff}
 use Rattle.schedule_value.proofs.judging.judge_schedule.Goals as goal
 
