@@ -196,9 +196,12 @@ def _write_risk_of_schedule(study: Study, schedule: Schedule) -> None:
         f" knowing the grades costs at most {money.said(found.unknown.mean())} on the mean"
     )
     if found.over.max() > 0:
+        most, treated = "the mill's rate", "milled"
+        if study.priced.names:
+            most, treated = "the rate of its process", "treated"
         warn(
-            f"under {int((found.over > 0).sum()):,} of them a period has more feed than the mill's"
-            f" rate, up to {found.over.max():.1%}: it is counted as milled, in the bound too"
+            f"under {int((found.over > 0).sum()):,} of them a period has more feed than {most}, up to"
+            f" {found.over.max():.1%}: it is counted as {treated}, in the bound too"
         )
     say(f"{results(study)}: risk_schedule.csv")
 
