@@ -138,6 +138,8 @@ def of_the_desk(place):
         browser.types("i.slopes.regions.NORTH.0.1", "39")
         browser.sees("39.0", "table.data")
         browser.resized(1500, 860)
+        drawn = "return [...document.images].every(i => i.complete && i.naturalWidth)"
+        browser.until(lambda: browser.script(drawn), "the rose")
         browser.shot(shots["slopes"])
         browser.resized(1280, 760)
         browser.click("[id='to.pits']")

@@ -205,11 +205,11 @@ async function follow(run) {
   await reread().then(draw);
 }
 
-/** Looks at what others do: in other windows, in an editor, in a terminal. */
-async function pulse() {
+/** Looks at what others do: in other windows, in an editor, in a terminal. @param {any} was */
+async function pulse(was) {
   const { ok, status, errors, ...beat } = await look(api("pulse"));
-  if (!ok || !D.study?.text || (same(beat, D.study.pulse) && !isUnread)) return;
-  const isOther = beat.etag !== D.study.pulse.etag;
+  if (!ok || D.study !== was || root.pending > 0 || (same(beat, was.pulse) && !isUnread)) return;
+  const isOther = beat.etag !== was.pulse.etag;
   if (isOther) say("study.toml was changed, and is read again");
   await reread().then(draw);
   if (isOther) await refresh();
@@ -217,7 +217,7 @@ async function pulse() {
 
 async function watch(n) {
   if (going()) await follow(going());
-  if (n % OTHERS === 0 && D.study?.text && !document.hidden && D.edits === null) await pulse();
+  if (n % OTHERS === 0 && D.study?.text && !document.hidden && !D.edits) await pulse(D.study);
 }
 const beat = n => watch(n).finally(() => setTimeout(beat, POLL, n + 1));
 
