@@ -5,8 +5,7 @@ use Rattle.std.specs.declared.alloc.Global.{Global}
 use Rattle.blocks_file.specs.Denotes.{BlocksView, IsSmall, narrowed}
 use Rattle.prec_file.specs.Rests.{RestsView}
 use Rattle.settings_file.specs.Settings.{SettingsView, settings_of}
-use Rattle.shells.specs.Prices.{PricesView, PricesFaultStands}
-use Rattle.shells.specs.Series.{SeriesView}
+use Rattle.shells.specs.Prelude.{PricesView, PricesFaultStands, SeriesView}
 use Rattle.bench_report.specs.declared.bench_row.BenchRow.{BenchRow}
 use Rattle.bench_report.specs.Prelude.{ReportedBlocks, reported_blocks, IsBenchTable, goes_way, way_tonnes}
 use Rattle.mine_inputs.specs.declared.engine_fault.EngineFault.{EngineFault}

@@ -7,8 +7,7 @@ use Rattle.engines.specs.declared.judgement.Verdict.{Verdict}
 use Rattle.engines.specs.declared.judgement.Verdict.TheVariants.{Done, No}
 use Rattle.mine_inputs.specs.declared.engine_fault.EngineFault.{EngineFault}
 use Rattle.engines.specs.declared.effort.Effort.{Effort}
-use Rattle.mine_inputs.specs.PricedTexts.{table_of}
-use Rattle.mine_inputs.specs.Mines.{PrecedenceBy, is_sloped, texts_by, DenoteMine}
+use Rattle.mine_inputs.specs.Prelude.{table_of, PrecedenceBy, is_sloped, texts_by, DenoteMine}
 use Rattle.shell_engines.specs.declared.series_outputs.Wanted.{Wanted}
 use Rattle.shell_engines.specs.Prelude.{factors_said, FailsBy, Ends, mine_at_factor, IsTableWanted, way_said, AreNested, DenoteSeries, IsNoTable, NoNetAt}
 use Rattle.report_engines.specs.ReportTexts.{ReportBlocksRead, report_blocks, ReportMineFails}

@@ -5,8 +5,7 @@ use Rattle.closure_net.specs.Mine.{Mine, IsBest}
 use Rattle.shells.specs.Prelude.{PricesView, priced_count, way_at, SeriesView, mine_at, shell_at, upto, IsSeries}
 use Rattle.bench_report.specs.BlockShells.{blocks_text}
 use Rattle.shell_engines.specs.declared.shell_rows.ShellRow.{ShellRow}
-use Rattle.mine_inputs.specs.PricedTexts.{table_of}
-use Rattle.mine_inputs.specs.Mines.{PrecedenceBy}
+use Rattle.mine_inputs.specs.Prelude.{table_of, PrecedenceBy}
 use Rattle.shell_engines.specs.Prelude.{mine_at_factor, IsBlockTable, IsTableIfAsked, factors_said, IsSeriesRead, IsSettled, HasTableIfAsked, way_said}
 use Rattle.shell_engines.proofs.FirstShell.{first_is}
 use Rattle.shell_engines.proofs.Lifted.{mine_is}

@@ -4,8 +4,7 @@ use Rattle.std.specs.List.{find}
 use Rattle.closure_net.specs.Mine.{Mine, IsBest}
 use Rattle.shells.specs.Prices.{way_at}
 use Rattle.bench_report.specs.BlockShells.{blocks_text}
-use Rattle.mine_inputs.specs.PricedTexts.{table_of}
-use Rattle.mine_inputs.specs.Mines.{PrecedenceBy, texts_by, mine_of, DenoteMine}
+use Rattle.mine_inputs.specs.Prelude.{table_of, PrecedenceBy, texts_by, mine_of, DenoteMine}
 use Rattle.shell_engines.specs.declared.series_outputs.Wanted.{Wanted}
 use Rattle.shell_engines.specs.SeriesTexts.{factors_said, report_factor}
 

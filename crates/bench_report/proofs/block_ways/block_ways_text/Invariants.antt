@@ -1,6 +1,5 @@
 use Rattle.std.proofs.Common.{◌≡◌, ◌++◌}
-use Rattle.shells.specs.Prices.{way_at}
-use Rattle.shells.specs.Series.{shell_at}
+use Rattle.shells.specs.Prelude.{way_at, shell_at}
 use Rattle.bench_report.specs.BlockShells.{way_names_line, block_way_lines}
 use Rattle.bench_report.proofs.block_ways.block_ways_text.Given as goal
 
