@@ -15,6 +15,7 @@ from pitplan.base.amounts import Priced, Way
 from pitplan.base.errors import PlanError
 from pitplan.base.study_lines import line_of
 from pitplan.model import store
+from pitplan.study import study_reference
 from pitplan.study.building import Building
 from pitplan.study.study_file import read_study_file
 
@@ -303,3 +304,20 @@ def test_a_rate_asks_for_no_new_build(tmp_path):
     assert other.rates["process_rates"] == {"mill": 250e3, "leach": 90e3}
     path.write_text(text.replace("dilution = 0\n", "dilution = 0.01\n"))
     assert read_study_file(tmp_path).digest != told.digest
+
+
+def test_the_schema_takes_either_form_and_not_both():
+    jsonschema = pytest.importorskip("jsonschema")
+    schema, text = study_reference.schema(), two_ways.TEXT
+    jsonschema.validate(tomllib.loads(text), schema)
+    for was, now in (
+        ("mining = 2.0", "mining = 2.0\nprocessing = 9"),
+        (text[text.index("[[eco") : text.index("[slopes]")], ""),
+        ('name = "leach"\n', ""),
+        ("payable = { copper = 0.99 }", "payable = { copper = 99 }"),
+        ("rate = 120e3", "rate = 0"),
+        ("rate = 120e3", "raet = 120e3"),
+    ):
+        assert was in text
+        with pytest.raises(jsonschema.ValidationError):
+            jsonschema.validate(tomllib.loads(text.replace(was, now)), schema)
