@@ -10,6 +10,7 @@ pytest.importorskip("starlette")
 from desks import Chromium, Desk
 from pitplan.table.study_keys import KEYS, LISTS
 from processes import TOP
+from test_screens import NAMELESS, WIDE
 
 SCREENS = ("table", "money", "slopes", "pits", "pits/years")
 SHOWN = "return [...document.querySelectorAll('#main .field')].map(e => e.id)"
@@ -128,6 +129,10 @@ def test_ways_to_treat_a_block_are_added_changed_and_taken_out(study):
     assert recovery == {"SUL": 0.7, "OXI": 0.6, "OVB": 0.7}
     study.well()
     study.browser.sees("leach", "#main")
+    for size in ((1280, 800), (1920, 1080)):
+        study.browser.resized(*size)
+        assert study.browser.script(WIDE) == []
+        assert study.browser.script(NAMELESS) == []
     study.browser.types(f"{at}.1.rate", "-4")
     study.browser.sees("rate", ".metals .fault")
     study.browser.types(f"{at}.1.rate", "4e6")
