@@ -1,6 +1,6 @@
 -- Sums over the index of the pairs, and the prefix sums over all pairs that they stand for.
 use Rattle.fixed_worth.proofs.Common.{◌≡◌, ℕ, ◌+◌, ◌<◌, ◌≤◌, ◌==◌, List, length, get_or, sym, refl, ap, subst, ◌∙◌, arith, below_more, eq-eqb, eqb-true, ints, common_steps}
-use Rattle.ordered_group.specs.Prelude.{Amount, plus, FitsPair, Amount_eq, at_end}
+use Rattle.ordered_group.specs.Prelude.{Amount, zero_amount, plus, FitsPair, Amount_eq, at_end}
 use Rattle.check_pit.specs.Fits.{EndFits, EndOverflows}
 use Rattle.ordered_group.proofs.Numbers.{over, over-numbers, over-first}
 use Rattle.ordered_group.proofs.Steps.{total_step, fits_there}
@@ -62,3 +62,7 @@ module _ (start : Amount) (end : ℕ → ℕ) (f : ℕ → Amount) (b m : ℕ) (
 
   pub one_overflows : (i : ℕ) (old x : Amount) → i < length ks → old ≡ plus start (over f ks i) → f (get_or ks i 0) ≡ x → ¬ (FitsPair (plus old x)) → EndOverflows start end f b m
   one_overflows i old x l p q h = grind (arith, common_steps, over, overflows_from_list, fits_there)
+
+-- nothing fits
+pub zero_fits : FitsPair zero_amount
+zero_fits = (omega (arith, ints), omega (arith, ints))

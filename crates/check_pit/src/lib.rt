@@ -38,7 +38,7 @@ pub use cert_stream::{CertStream, check_graph, check_held, check_stream};
 pub use certificate_file::{
     CertFault, Certificate, Header, Price, read_certificate, reading, write_certificate,
 };
-pub use checking::check;
+pub use checking::{check, check_in_memory};
 pub use held_graph::{HeldGraph, graph_of_worths};
 pub use pit_fault::PitFault;
 pub use room::Room;

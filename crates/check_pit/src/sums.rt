@@ -2,16 +2,16 @@
 //! and tells where a sum doesn't fit.
 
 ghost use Rattle.std.specs.Prelude.{◌≡◌, ◌↔◌, ◌<◌, ℕ, ◌⊎◌, IsTrue, length, MatchOption};
-ghost use Rattle.ordered_group.specs.Amount.{plus};
+ghost use Rattle.ordered_group.specs.Amount.{plus, zero_amount};
 ghost use Rattle.ordered_group.specs.Sums.{amount_at};
 ghost use Rattle.prec_file.specs.Rests.{from_at, to_at};
 ghost use Rattle.closure_net.specs.Network.{holds_of, FlowFits, IsNet};
 ghost use Rattle.closure_net.specs.Closure.{group_worth};
-ghost use Rattle.closure_net.specs.Flows.{inflow, outflow, source_residual};
+ghost use Rattle.closure_net.specs.Flows.{inflow, outflow, residual_at, source_residual};
 ghost use Rattle.check_pit.specs.Fits.{EndFits, EndOverflows, SetFits, SetOverflows, ResidualFits, ResidualOverflows};
 
 use closure_net::{Carried, Flow, Net, Pit};
-use ordered_group::{OrderedGroup, same};
+use ordered_group::{OrderedGroup, is_zero, same};
 use prec_file::Rests;
 
 // The start and all that the pairs bring into b, added in the order of the pairs.
@@ -105,6 +105,15 @@ pub(crate) fn pit_worth<G: OrderedGroup>(net: &Net<G>, pit: &Pit) -> Option<G>
     Some(sum)
 }
 
+// Whether the source may give b nothing, as most blocks of a mine, and gives it nothing.
+fn has_no_residual<G: OrderedGroup>(net: &Net<G>, flow: &Flow<G>, b: u32) -> bool
+    requires fits { FlowFits net.now flow.now }
+    requires known { b < length net.now.worths }
+    ensures { IsTrue result → residual_at net.now.worths flow.now.source b ≡ zero_amount }
+{
+    is_zero(net.positive(b)) && is_zero(flow.source().at(b))
+}
+
 // The residual capacity of the source, summed in the order of the blocks.
 pub(crate) fn residual_of_source<G: OrderedGroup>(net: &Net<G>, flow: &Flow<G>) -> Option<G>
     requires { FlowFits net.now flow.now }
@@ -115,8 +124,10 @@ pub(crate) fn residual_of_source<G: OrderedGroup>(net: &Net<G>, flow: &Flow<G>) 
 {
     let mut sum = G::zero();
     for b in 0..net.len() {
-        let room = net.positive(b).try_sub(flow.source().at(b))?;
-        sum = sum.try_add(room)?;
+        if !has_no_residual(net, flow, b) {
+            let room = net.positive(b).try_sub(flow.source().at(b))?;
+            sum = sum.try_add(room)?;
+        }
     }
     Some(sum)
 }

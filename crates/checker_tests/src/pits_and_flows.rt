@@ -4,7 +4,7 @@
 ghost use Rattle.std.specs.Prelude.{◌≤◌, length};
 
 use check_pit::laws::tight_closed_set_is_greatest;
-use check_pit::{PitFault, check};
+use check_pit::{PitFault, check, check_in_memory};
 use closure_net::{Carried, Flow, Net, Pit};
 use fixed_worth::MOST_BLOCKS;
 use ordered_group::{OrderedGroup, Worth, WorthSize};
@@ -96,7 +96,7 @@ fn fault_of<G: OrderedGroup>(alloc: Global, case: &Case<'_, G>) -> Result<Option
     fault_over(alloc, &net, &pit, case)
 }
 
-// The fault of the flow of a case over this net, for this pit.
+// The fault of the flow of a case over this net, for this pit: a check with memory for its sums finds the same.
 fn fault_over<G: OrderedGroup>(
     alloc: Global,
     net: &Net<G>,
@@ -104,7 +104,11 @@ fn fault_over<G: OrderedGroup>(
     case: &Case<'_, G>,
 ) -> Result<Option<PitFault>, Fail> {
     let flow = flow_of(alloc, case.source, case.rest, case.sink)?;
-    Ok(check(net, pit, &flow).err())
+    let fault = check(net, pit, &flow).err();
+    if check_in_memory(alloc, net, pit, &flow).err() != fault {
+        return Err(Fail::from("another fault with memory"));
+    }
+    Ok(fault)
 }
 
 fn size(nanos: i128, size: i128) -> WorthSize {
@@ -134,13 +138,15 @@ fn full_flow(alloc: Global) -> Result<Flow<WorthSize>, Fail> {
     )
 }
 
-// Fails the test where the pit of the three blocks isn't accepted, with its worth.
+// Fails the test where the pit of the three blocks isn't accepted, with its worth, by either check.
 fn is_accepted(
-    rt: &impl Abort,
+    rt: &(impl Abort + AllocGlobal),
     net: &Net<WorthSize>,
     pit: &Pit,
     flow: &Flow<WorthSize>,
 ) -> Result<(), Fail> {
+    let quick = check_in_memory(rt.alloc(), net, pit, flow);
+    same(rt, quick.ok().ok_or("refused")?.worth(), size(1, -3));
     let accepted = check(net, pit, flow).ok().ok_or("refused")?;
     same(rt, accepted.worth(), size(1, -3));
     same(rt, accepted.pit().blocks(), [0, 1, 2].as_slice());

@@ -5,7 +5,7 @@ ghost use Rattle.closure_net.specs.Network.{FlowFits};
 ghost use Rattle.engines.specs.Certification.{IsSolution, UncertifiedStands};
 
 use crate::certificate_judge::size_and_worth;
-use check_pit::{PitFault, check};
+use check_pit::{PitFault, check_in_memory};
 use closure_net::{Flow, Net, Pit, pit_of};
 use ordered_group::OrderedGroup;
 use std::alloc::Global;
@@ -57,7 +57,7 @@ pub fn certified<G: OrderedGroup>(
     let Ok(pit) = pit_of(alloc, net, &flow) else {
         return Err(Uncertified::NoMemory);
     };
-    let (count, worth) = match check(net, &pit, &flow) {
+    let (count, worth) = match check_in_memory(alloc, net, &pit, &flow) {
         Ok(accepted) => size_and_worth(accepted.on_graph()),
         Err(fault) => return Err(Uncertified::Refused(fault)),
     };

@@ -3,7 +3,7 @@ use Rattle.closure_net.specs.Prelude.{NetView, holds_of, IsGreatest}
 use Rattle.check_pit.specs.Checks.{PassesCapacities}
 use Rattle.check_pit.proofs.Verdicts.{flow_found, balance_fault, no_fault}
 use Rattle.closure_net.proofs.Duality.{greatest_from_tight}
-use Rattle.check_pit.proofs.checking.check.Goals as goal
+use Rattle.check_pit.proofs.checking.checked.Goals as goal
 
 pub returns-in_err-balances-clause-found : goal.returns-in_err-balances-clause-found
 returns-in_err-balances-clause-found g c = grind (arith, common_steps, err_from_is_err_and, balance_fault)
