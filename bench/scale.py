@@ -627,13 +627,16 @@ def show_schedules(path):
             f"{row['pit_blocks']:,}",
             f"{row['years']}",
             f"{row['closures']}",
+            f"{row['npv']:,.1f}",
+            f"{row['bound']:,.1f}",
             f"{row['gap']:.3f} %",
             f"{row['cpu_s']:,.0f}",
             f"{row['memory_mb']:,.0f}",
         ]
         for row in pd.read_csv(path).to_dict("records")
     ]
-    head = ["", "blocks", "in the pit", "years", "closures", "below the bound", "s", "memory MB"]
+    head = ["", "blocks", "in the pit", "years", "closures", "npv", "bound", "below it", "s"]
+    head.append("memory MB")
     lines(head, rows)
 
 

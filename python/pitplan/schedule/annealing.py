@@ -13,7 +13,7 @@ from .sorting import Sorting
 _HOT, _COLD = 0.1, 0.01  # temperatures, as shares of the mean loss of a swap that loses
 _LEVELS = 30  # temperatures from the one to the other
 _PROBES = 400  # swaps between each two periods, by which that mean is found
-_PIECE = 2000  # swaps between two looks at the clock and at the best
+_PIECE = 2000  # swaps between two looks at the clock
 _SEEDS = 1 << 31
 
 
@@ -34,7 +34,7 @@ class Annealing:
         self.random = np.random.default_rng(seed)
 
     def annealed(self, plan: Timetable, tries: int) -> Timetable:
-        """The best schedule that is seen, at looks after some swaps each. Slopes, sink rate,
+        """The best schedule that is seen, at looks after swaps in each second pair of periods. Slopes, sink rate,
         capacities, panels and pushbacks are kept at every step; where blocks go stays until the end.
 
         Parameters
@@ -46,28 +46,34 @@ class Annealing:
         mine, more = self.sorting.mine_of(plan.sent), self.sorting.loose(plan)
         best, most, now = more.period.copy(), 0.0, 0.0
         for mean in np.geomspace(_HOT, _COLD, _LEVELS) * self.mean_loss(mine, more):
-            for s in self.random.permutation(len(self.steps)).tolist():
-                for done in range(0, tries, _PIECE):
-                    if self.sorting.is_late:
-                        break
-                    now += self.swapped(mine, more, (s, min(_PIECE, tries - done)), mean)[0]
-                    if now > most:
-                        best, most = more.period.copy(), now
+            for first in self.random.permutation(2).tolist():
+                seeds = self.random.integers(_SEEDS, size=len(self.steps)).tolist()
+
+                def gained(s: int, mean: float = mean, seeds: list[int] = seeds) -> float:
+                    return self.gained(mine, more, (s, tries, seeds[s]), mean)
+
+                now += sum(self.sorting.at_once(gained, range(first, len(self.steps), 2)))
+                if now > most:
+                    best, most = more.period.copy(), now
         return self.sorting.moved(self.sorting.sent_in(best))
+
+    def gained(self, mine: Mine, plan: Plan, asked: tuple[int, int, int], mean: float) -> float:
+        """What so many swaps between a period and the next gain at a temperature, until the time is over;
+        the last number is of all that is at random."""
+        s, tries, seed = asked
+        found, heat = 0.0, Heat(self.steps[s], mean)
+        for done in range(0, tries, _PIECE):
+            if self.sorting.is_late:
+                break
+            piece = min(_PIECE, tries - done)
+            found += loops.swap_units(mine, plan, s, piece, seed + done // _PIECE, heat)[0]
+        return found
 
     def mean_loss(self, mine: Mine, plan: Plan) -> float:
         """What a swap that loses does in the mean, of some that are tried and not taken; 0 where
         none does."""
-        found = [self.swapped(mine, plan, (s, _PROBES), -1.0) for s in range(len(self.steps))]
+        found = []
+        for s, step in enumerate(self.steps):
+            seed = int(self.random.integers(_SEEDS))
+            found.append(loops.swap_units(mine, plan, s, _PROBES, seed, Heat(step, -1.0)))
         return sum(lost for _, lost, _ in found) / max(sum(count for _, _, count in found), 1)
-
-    def swapped(
-        self, mine: Mine, plan: Plan, asked: tuple[int, int], mean: float
-    ) -> tuple[float, float, int]:
-        """Tries swaps between a period and the next, so many, at a temperature; gives what they gain,
-        what those that lose do, and how many these are."""
-        s, tries = asked
-        heat = Heat(self.steps[s], mean)
-        seed = int(self.random.integers(_SEEDS))
-        found: tuple[float, float, int] = loops.swap_units(mine, plan, s, tries, seed, heat)
-        return found

@@ -4,8 +4,13 @@ Its block (b, t) stands for "unit b is dug by the end of period t". It rests on 
 (a, t) where b rests on a, and on (a, t - lag) where the sink rate asks for a. Multipliers are prices of a
 unit of each resource in each period: what a unit leaves in a period is its discounted worth less
 the prices of what it uses, by the better way of each block that may go to the mill or to waste.
-Block (b, t) is worth what b leaves in t less what it leaves in t + 1. Then no feasible schedule is worth more than the richest pit and all capacities at these
-prices, whatever the prices are: a law that `pit`'s crate `schedules` proves.
+Block (b, t) is worth what b leaves in t less what it leaves in t + 1. Then no feasible schedule is
+worth more than the richest pit and all capacities at these prices, whatever the prices are: a law
+that `pit`'s crate `schedules` proves of a mine with every (b, t) and without lags.
+
+A block (b, t) is left out where no schedule digs b by then: by the sink rate, or since the cone of b has
+no room in the capacities so far. A schedule's own pit has none of these, is closed without them, and
+brings what it did, so that the law holds.
 """
 from __future__ import annotations
 

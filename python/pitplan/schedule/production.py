@@ -91,7 +91,7 @@ class Production:
     @property
     def counts_cones(self) -> bool:
         """Whether cones say from when on a unit may be dug: where units are panels or have an order of
-        pushbacks. Of single blocks that takes nothing off a bound."""
+        pushbacks. Of single blocks that takes next to nothing off a bound."""
         return bool(self.gates) or self.units < len(self.blocks)
 
     @property

@@ -36,7 +36,10 @@ _REBUILDS = 100  # tries of a round to dig other units, at most
 _REBUILT = 10_000  # units that they go over together
 _SWAPS = 3  # rounds of swaps before each annealing
 _LEAST, _MOST = 150, 12_000  # swaps between each two periods at each temperature of the first one
-_STALE = 12  # rounds in a row that bring next to nothing, after which the search ends
+_LONGER = 1.5  # times that each annealing is longer than the one before
+_OFTEN = 4  # how often it gets longer
+_OF_LEFT = 0.9  # of the time that is left, which annealing may take
+_STALE = 8  # rounds in a row that bring next to nothing, after which the search ends
 _LONGEST = 1e9  # seconds of a search
 _NOTHING = 2e-6  # of the worth: what counts as next to nothing
 
@@ -121,6 +124,7 @@ class Search:
         self.rebuilds = min(_REBUILDS, _REBUILT // production.units)
         self.plan: Timetable | None = None
         self.rounds = 0  # of swaps and annealing
+        self.pace = 0.0  # seconds that annealing took for each of its tries
         self.end = self.kept.end()
         self.bound = self.kept.bound()
         if self.bound:
@@ -325,6 +329,16 @@ class Search:
             self.take(self.sorting.swapped(self.plan, _TRIES, seed))
         else:
             self.tell("annealing: swaps of which some lose")
-            tries = anneals * min(max(self.production.units * 3 // 4, _LEAST), _MOST)
-            self.take(Annealing(self.sorting, seed).annealed(self.plan, tries))
+            self.anneal(anneals, seed)
         self.take(self.sorting.rebuilt(self.plan, self.rebuilds, seed))
+
+    def anneal(self, times: int, seed: int) -> None:
+        """Annealing, each half as long again as the one before up to a limit, and no longer than the time
+        that is left: what is cut off while it is hot brings nothing."""
+        assert self.plan is not None
+        least = min(max(self.production.units, _LEAST), _MOST)
+        tries, began = least * _LONGER ** min(times - 1, _OFTEN), time.monotonic()
+        if self.pace:
+            tries = min(tries, _OF_LEFT * (self.sorting.ends - began) / self.pace)
+        self.take(Annealing(self.sorting, seed).annealed(self.plan, max(int(tries), 1)))
+        self.pace = (time.monotonic() - began) / max(int(tries), 1)

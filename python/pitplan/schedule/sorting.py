@@ -5,11 +5,14 @@ from __future__ import annotations
 
 import math
 import time
-from collections.abc import Iterator
+from collections.abc import Callable, Iterable, Iterator
+from concurrent.futures import ThreadPoolExecutor
+from typing import TypeVar
 
 import numpy as np
 
 from ..base.arrays import Bools, Floats, Ints
+from ..base.machine import processors
 from . import loops
 from .loops import Heat, Mine, Plan
 from .production import Production
@@ -22,6 +25,8 @@ _TURNS = 4  # of moves and of what is sent
 _SLACK = 1e-9
 _SEEDS = 1 << 10  # of one round of swaps between two periods
 _PIECE = 2000  # swaps between two looks at the clock
+_THREADS = 2
+_Swapped = TypeVar("_Swapped")
 _MOST_OUT = 4  # units that one try of a rebuilding takes out
 _MOST_LOOKS = 20  # times all units that it looks at for what comes in their place
 
@@ -38,10 +43,13 @@ class Sorting:
     ends : float
         When what makes a schedule better has to end, by the clock that always goes on; a schedule
         is made whatever the time.
+    threads : int
+        Pairs of periods that swaps go on in at the same time.
     """
 
     def __init__(self, production: Production) -> None:
         self.production, self.ends = production, math.inf
+        self.threads = min(_THREADS, processors())
         above, sinking = production.above, production.sinking
         on, sunk = above.turned(), sinking.turned()
         self.mine = Mine(
@@ -175,15 +183,30 @@ class Sorting:
             plan = Timetable(plan.period, sent)
         mine, more = self.mine_of(plan.sent), self.loose(plan)
         steps = self.steps.tolist()
-        for s, step in enumerate(steps):
-            here = int(np.isin(more.period, (s, s + 1)).sum())
+        counts = np.bincount(more.period, minlength=len(steps) + 1)
+
+        def swap(s: int) -> None:
+            most = tries + int(counts[s : s + 2].sum())
             begin = (seed * len(steps) + s) * _SEEDS
-            for done in range(0, tries + here, _PIECE):
+            for done in range(0, most, _PIECE):
                 if self.is_late:
                     break
-                most = min(_PIECE, tries + here - done)
-                loops.swap_units(mine, more, s, most, begin + done // _PIECE, Heat(step, 0.0))
+                heat, piece = Heat(steps[s], 0.0), min(_PIECE, most - done)
+                loops.swap_units(mine, more, s, piece, begin + done // _PIECE, heat)
+
+        for first in range(2):
+            self.at_once(swap, range(first, len(steps), 2))
         return self.moved(self.sent_in(more.period))
+
+    def at_once(self, swap: Callable[[int], _Swapped], periods: Iterable[int]) -> list[_Swapped]:
+        """Does something with each of some periods and the next, which no other of them has, by
+        `threads`. What one of two such pairs may do doesn't depend on the other: units that a pair
+        has stay in it. A lag of more periods than one reaches across a pair, and then one comes after
+        the other."""
+        if self.threads == 1 or len(self.production.sinking.other) and self.mine.lag > 1:
+            return [swap(s) for s in periods]
+        with ThreadPoolExecutor(self.threads) as pool:
+            return list(pool.map(swap, periods))
 
     @property
     def steps(self) -> Ints:

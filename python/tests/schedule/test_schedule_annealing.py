@@ -1,6 +1,7 @@
 """Annealing keeps what a schedule has to keep at every step, takes what loses as often as its rule says, and gives the best that it
 saw. What a schedule is worth and whether it is feasible is counted by `Production`, which shares no line with the loops."""
 import math
+import threading
 from dataclasses import replace
 
 import numpy as np
@@ -110,6 +111,47 @@ def test_it_comes_out_of_what_swaps_lead_to():
     assert found == again
 
 
+@pytest.mark.parametrize("sink", [False, True])
+@pytest.mark.parametrize("seed, kind", MINES)
+def test_threads_change_nothing(seed, kind, sink):
+    """Pairs of periods that swaps go on in at the same time have no unit of each other."""
+    made = made_of(seed, kind, sink)
+    found = []
+    for threads in (1, 2, 3):
+        orders, plan = begun(made)
+        orders.threads = threads
+        plan = Annealing(orders, 3).annealed(orders.swapped(plan, 300, 1), 100)
+        assert made.wrong(plan) == []
+        found.append(plan.period.tolist())
+    assert found[0] == found[1] == found[2]
+
+
+@pytest.mark.parametrize("how", ["swapped", "annealed"])
+def test_what_is_done_at_once_has_no_period_in_common(how):
+    """And each two neighbouring periods come once, at each temperature of annealing."""
+    orders, plan = begun(TinyMine(2).production)
+    rounds, at_once = [], orders.at_once
+    orders.at_once = lambda swap, periods: (rounds.append(list(periods)), at_once(swap, periods))[1]
+    if how == "swapped":
+        orders.swapped(plan, 10, 1)
+    else:
+        Annealing(orders, 1).annealed(plan, 1)
+    assert all(b - a > 1 for pairs in rounds for a, b in zip(pairs, pairs[1:]))
+    for both in zip(rounds[::2], rounds[1::2]):
+        assert sorted(sum(both, [])) == list(range(orders.production.periods))
+
+
+def test_pairs_that_reach_into_each_other_come_one_after_the_other():
+    """By a lag of two periods a swap of periods 2 and 3 asks for what one of 0 and 1 moves."""
+    orders, _ = begun(made_of(2, {}, True))
+    assert len(orders.production.sinking.other)
+    orders.threads = 2
+    for lag, is_alone in ((1, False), (2, True)):
+        orders.mine = orders.mine._replace(lag=lag)
+        who = set(orders.at_once(lambda _: threading.get_ident(), range(8)))
+        assert (who == {threading.get_ident()}) == is_alone
+
+
 class Clock:
     """A clock that says 0 so many times, and then that the time is over."""
 
@@ -132,7 +174,7 @@ def test_a_round_ends_when_the_time_is_over(monkeypatch, looks, how):
     anneal = Annealing(orders, 1)
     anneal.mean_loss = lambda *words: 1.0  # its probes don't count
     monkeypatch.setattr(sorting, "time", Clock(looks))
-    orders.ends = 1.0
+    orders.ends, orders.threads = 1.0, 1
     if how == "swapped":
         found = orders.swapped(plan, 10_000, 1)
     elif how == "annealed":

@@ -48,14 +48,39 @@ def test_it_is_the_first_period_with_room_for_all_that_a_unit_rests_on(count, se
             if all(need <= row[: t + 1].sum() for need, row in zip(needs, rooms))
         ]
         assert found[name[unit]] == (fits[0] if fits else 5)
+    above = [{other for low, other in pairs if low == unit} for unit in range(count)]
+    assert by_the_checker(above, uses.tolist(), rooms.tolist()) == found[name].tolist()
 
 
-def test_a_cone_that_just_fits_is_not_kept_out():
+def by_the_checker(above, uses, rooms, sent=None):
+    """What the bundle's checker says of units of one block each; unit 0 and what follows, each behind what it rests on."""
+    count = len(above)
+    periods = recheck_schedule.Periods(
+        [0] * len(rooms[0]),
+        rooms,
+        rooms,
+        uses,
+        {b: b for b in range(count)},
+        None,
+        1,
+        sent,
+        dict.fromkeys(range(count), 0),
+        0,
+        0,
+    )
+    return recheck_schedule.cone_periods(periods, list(range(count)), above)
+
+
+@pytest.mark.parametrize("room, first", [(7, 0), (6, 1), (1, 2)])
+def test_a_cone_that_just_fits_is_not_kept_out(room, first):
+    """By the package and by the bundle's checker; where a schedule says what is sent, the checker's mill keeps nothing out."""
     pairs = Pairs.of(np.array([1]), np.array([0]), 2)
-    uses, order = np.array([[3, 4], [0, 0]]), np.arange(2)
-    for room, first in ((7, 0), (6, 1)):
-        rooms = np.array([[room, 1], [0, 0]])
-        assert first_by_cones(pairs, order, uses, rooms).tolist() == [0, first]
+    uses, rooms = [[3, 4], [0, 0]], [[room, 1], [0, 0]]
+    ours = first_by_cones(pairs, np.arange(2), np.array(uses), np.array(rooms))
+    assert ours.tolist() == by_the_checker([set(), {0}], uses, rooms) == [int(room < 3) * 2, first]
+    uses[1] = [1, 1]
+    assert by_the_checker([set(), {0}], uses, rooms) == [2, 2]
+    assert by_the_checker([set(), {0}], uses, rooms, set())[1] == first
 
 
 PANELS, BOTH = {"panel": 2}, {"panel": 2, "pushbacks": True, "lead": 1}
@@ -111,13 +136,19 @@ def checked(bundle, monkeypatch, capsys):
     return recheck_schedule.main(), capsys.readouterr().out
 
 
-@pytest.mark.parametrize("more", ["panel = 2\n", "pushbacks = [0.6]\n"])
-def test_the_bundles_checker_counts_cones_too(tmp_path, monkeypatch, capsys, more):
+@pytest.mark.parametrize("more, mistakes", [("panel = 2\n", 3), ("pushbacks = [0.6]\n", 2)])
+def test_the_bundles_checker_counts_cones_too(tmp_path, monkeypatch, capsys, more, mistakes):
     """And refuses a bound by cones that have one block too many, or by one panel that may come later than its cone says."""
     bundle, found = bundled(tmp_path / "right", more)
     assert found.production.earliest.any()
     status, said = checked(bundle, monkeypatch, capsys)
     assert status == 0, said
+    mine, made = recheck_schedule.read_mine(), found.production
+    unit = dict(zip(made.blocks.tolist(), made.unit.tolist()))
+    first, other = made.above
+    for one, wanted in enumerate(recheck_schedule.of_units(mine.above, unit, True)):
+        ours = set(other[first[one] : first[one + 1]].tolist())
+        assert {each for each in ours if each < made.units - made.gates} == wanted
 
     def too_heavy(above, order, uses, capacities):
         """So many blocks too much in each cone that one of them comes later."""
@@ -135,7 +166,17 @@ def test_the_bundles_checker_counts_cones_too(tmp_path, monkeypatch, capsys, mor
         is_free = (right < capacities.shape[1]) & ~np.isin(np.arange(len(right)), above.other)
         return right + (np.arange(len(right)) == np.flatnonzero(is_free)[-1])
 
-    for mistake in (too_heavy, a_year_late):
+    def without_its_own(above, order, uses, capacities):
+        """A unit comes as soon as what it rests on, whatever room it needs itself."""
+        found = first_by_cones(above, order, uses, capacities)
+        for unit in np.setdiff1d(above.blocks, above.other):
+            over = found[above.other[above.first[unit] : above.first[unit + 1]]].max()
+            if over < found[unit]:
+                found[unit] = over
+                return found
+        raise AssertionError("no unit comes later than what it rests on")
+
+    for mistake in (too_heavy, a_year_late, without_its_own)[:mistakes]:
         monkeypatch.setattr(production, "first_by_cones", mistake)
         wrong, _ = bundled(tmp_path / mistake.__name__, more)
         monkeypatch.setattr(production, "first_by_cones", first_by_cones)
