@@ -505,7 +505,7 @@ def of_ramps(slopes: Slopes, unit: str) -> Iterator[Strange]:
                 key,
             )
             continue
-        angles = slopes.told(name)
+        angles = slopes.angles_of(name)
         flat = {angles} if isinstance(angles, (int, float)) else {angle for _, angle in angles}
         for angle in sorted(flat)[-1:]:
             wide = ramp.height / math.tan(math.radians(angle))

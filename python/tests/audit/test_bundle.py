@@ -1079,16 +1079,16 @@ def test_marks_with_a_comma_are_numbers(tmp_path):
         tmp_path, frame, mines.STUDY_TOML.replace("size =", 'absent = ["-99,0"]\nsize =')
     )
     (tmp_path / "t.csv").write_text(written)
-    told = read_study_file(told_at)
+    plan = read_study_file(told_at)
     study = Study.create(
-        told.path.parent, told.read_model(), told.economics, told.slopes, keys=told.digest
+        plan.path.parent, plan.read_model(), plan.economics, plan.slopes, keys=plan.digest
     )
     bundle.write_bundle(
-        study.shells(told.factors),
+        study.shells(plan.factors),
         tmp_path / "b",
-        told.path,
-        told.keys.dialect(told.table),
-        told.rates,
+        plan.path,
+        plan.keys.dialect(plan.table),
+        plan.rates,
     )
     lines, status = rechecked(tmp_path / "b")
     assert status == 0, lines
@@ -1457,28 +1457,28 @@ def test_no_path_of_the_planner_s_machine_is_in_it(tmp_path):
 
 def test_a_folder_that_is_there_is_left_alone(whole, tmp_path):
     (tmp_path / "there").mkdir()
-    told = read_study_file(whole.parent)
+    plan = read_study_file(whole.parent)
     with pytest.raises(PlanError, match="is there already"):
         bundle.write_bundle(
-            Study(whole.parent).shells(told.factors),
+            Study(whole.parent).shells(plan.factors),
             tmp_path / "there",
-            told.path,
-            told.keys.dialect(told.table),
+            plan.path,
+            plan.keys.dialect(plan.table),
         )
     assert not list((tmp_path / "there").iterdir())
 
 
 def test_a_table_that_has_changed_since_is_not_bundled(tmp_path):
-    told = read_study_file(mines.written_study(tmp_path / "s"))
+    plan = read_study_file(mines.written_study(tmp_path / "s"))
     shells = Study.create(
-        told.path.parent, told.read_model(), told.economics, told.slopes, keys=told.digest
-    ).shells(told.factors)
-    told.table.write_text(told.table.read_text().replace("SUL", "OXI", 1))
+        plan.path.parent, plan.read_model(), plan.economics, plan.slopes, keys=plan.digest
+    ).shells(plan.factors)
+    plan.table.write_text(plan.table.read_text().replace("SUL", "OXI", 1))
     with pytest.raises(
         PlanError, match="the table that the study was built from isn't there any more"
     ):
         bundle.write_bundle(
-            shells, tmp_path / "b", told.path, told.keys.dialect(told.table), told.rates
+            shells, tmp_path / "b", plan.path, plan.keys.dialect(plan.table), plan.rates
         )
     assert not (tmp_path / "b").exists()
 

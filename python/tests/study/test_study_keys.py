@@ -316,16 +316,16 @@ def test_the_first_wrong_cells_of_a_column_are_told(tmp_path):
     frame["CU"], frame["XC"] = frame["CU"].astype(object), frame["XC"].astype(object)
     frame.loc[[4, 7, *range(30, 60)], "CU"] = "N/S"
     frame.loc[5, "XC"] = "far"
-    told = read_study_file(written_study(tmp_path / "s", frame))
+    plan = read_study_file(written_study(tmp_path / "s", frame))
     with pytest.raises(pp.PlanError) as error:
-        told.read_model()
+        plan.read_model()
     assert error.value.row == 5
     assert error.value.column == "XC"
     frame.loc[5, "XC"] = 5000.0
     frame = frame.drop(5)
-    told = read_study_file(written_study(tmp_path / "s", frame))
+    plan = read_study_file(written_study(tmp_path / "s", frame))
     with pytest.raises(pp.PlanError) as error:
-        told.economics.priced(told.read_model())
+        plan.economics.priced(plan.read_model())
     assert error.value.row == 4
     assert [cell.row for cell in error.value.cells[:2]] == [6, 29]
     assert len(error.value.cells) == 19

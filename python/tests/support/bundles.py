@@ -7,15 +7,15 @@ from pitplan.study.study_file import read_study_file
 
 def bundled(folder, text=mines.STUDY_TOML, frame=None):
     """The bundle of a small study."""
-    told = read_study_file(mines.written_study(folder, frame, text))
+    plan = read_study_file(mines.written_study(folder, frame, text))
     study = Study.create(
-        told.path.parent, told.read_model(), told.economics, told.slopes, keys=told.digest
+        plan.path.parent, plan.read_model(), plan.economics, plan.slopes, keys=plan.digest
     )
     bundle.write_bundle(
-        study.shells(told.factors),
+        study.shells(plan.factors),
         folder / "for the auditor",
-        told.path,
-        told.keys.dialect(told.table),
-        told.rates,
+        plan.path,
+        plan.keys.dialect(plan.table),
+        plan.rates,
     )
     return folder / "for the auditor"
