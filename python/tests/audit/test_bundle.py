@@ -19,7 +19,7 @@ import pytest
 from scipy.spatial import ConvexHull
 
 import mines
-from bundles import bundled
+from bundles import bundled, rechecked, summed
 from pitplan.audit import bundle, recheck
 from pitplan.model import economics
 from pitplan.slopes import offsets
@@ -62,37 +62,6 @@ def whole(tmp_path_factory):
 @pytest.fixture
 def copy(whole, tmp_path):
     return Path(shutil.copytree(whole, tmp_path / "copy"))
-
-
-def rechecked(folder, *words):
-    """The lines of recheck.py that aren't ok, and its exit status; a traceback is none of its answers."""
-    ran = subprocess.run(
-        [sys.executable, "-I", str(folder / "recheck.py"), *words, os.environ["PIT"]],
-        capture_output=True,
-        text=True,
-        cwd="/",
-    )
-    assert "Traceback" not in ran.stderr, ran.stderr
-    return [
-        line
-        for line in ran.stdout.splitlines()
-        if not line.startswith(("ok ", "look ", "sha256 of"))
-    ], ran.returncode
-
-
-def summed(folder):
-    """Makes the digests again, as somebody who changes a bundle would."""
-    names = sorted(
-        path.relative_to(folder).as_posix()
-        for path in folder.rglob("*")
-        if path.is_file() and path.name != bundle.SUMS
-    )
-    (folder / bundle.SUMS).write_text(
-        "".join(
-            f"{hashlib.sha256((folder / name).read_bytes()).hexdigest()}  {name}\n"
-            for name in names
-        )
-    )
 
 
 def test_it_holds(whole):
