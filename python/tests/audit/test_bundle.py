@@ -161,21 +161,23 @@ def test_air_above_steep_ground_is_no_strange_block(tmp_path):
 
 
 @pytest.mark.parametrize(
-    "place, tonnes, amounts, is_strange",
+    "place, tonnes, mining, ways, is_strange",
     [
-        ((0, 0, 3), 0, (0, 0, 0), False),
-        ((0, 0, 1), 0, (0, 0, 0), True),
-        ((1, 0, 3), 0, (0, 0, 0), True),
-        ((0, 0, 3), 5, (0, 0, 0), True),
-        ((0, 0, 3), 0, (0, 0, 7), True),
+        ((0, 0, 3), 0, 0, [(0, 0)], False),
+        ((0, 0, 3), 0, 0, [(0, 0), (0, 0)], False),
+        ((0, 0, 1), 0, 0, [(0, 0)], True),
+        ((1, 0, 3), 0, 0, [(0, 0)], True),
+        ((0, 0, 3), 5, 0, [(0, 0)], True),
+        ((0, 0, 3), 0, 7, [(0, 0)], True),
+        ((0, 0, 3), 0, 0, [(0, 0), (0, 7)], True),
     ],
 )
-def test_a_block_without_a_row_is_air_above_ground(place, tonnes, amounts, is_strange):
+def test_a_block_without_a_row_is_air_above_ground(place, tonnes, mining, ways, is_strange):
     """It stands above the highest row of its column, weighs nothing and costs nothing."""
     blocks = SimpleNamespace(
         places=[(0, 0, 0), (0, 0, 2), place],
         tonnes=[9, 9, tonnes],
-        amounts=[(0, 0, 1), (0, 0, 1), amounts],
+        amounts=[*[recheck.Amounts(((0, 0),), 1)] * 2, recheck.Amounts(tuple(ways), mining)],
     )
     assert recheck.added_without_need(blocks, [0, 1, -1]) == ([2] if is_strange else [])
 
