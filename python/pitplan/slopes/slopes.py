@@ -20,7 +20,9 @@ from ..model.grid import Grid
 from ..model.model import Model
 from ..model.subblocks import coded
 from ..table.formula import is_formula, names_in, text_of, words_out
-from ..table.study_keys import has_ramp, keys_of, refuse_wrong
+from ..table.study_keys import keys_of
+from ..table.value_kinds import has_ramp
+from ..table.wrong_values import refuse_wrong
 from . import offsets
 from .listed import offsets_listed, slopes_text
 from .offsets import Angles, Offset, Outline, Pattern
