@@ -7,10 +7,9 @@ import pytest
 pytest.importorskip("selenium")
 pytest.importorskip("starlette")
 
-from desks import Chromium, Desk
+from desks import NAMELESS, WIDE, Chromium, Desk
 from pitplan.table.study_keys import KEYS, LISTS
 from processes import TOP
-from test_screens import NAMELESS, WIDE
 
 SCREENS = ("table", "money", "slopes", "pits", "pits/years")
 SHOWN = "return [...document.querySelectorAll('#main .field')].map(e => e.id)"

@@ -9,7 +9,7 @@ pytest.importorskip("selenium")
 pytest.importorskip("starlette")
 from selenium.webdriver.common.keys import Keys
 
-from desks import Chromium, Desk
+from desks import NAMELESS, WIDE, Chromium, Desk
 from processes import TOP, said
 
 SCREENS = ("table", "money", "slopes", "pits", "pushbacks", "designs", "vary", "history")
@@ -65,26 +65,6 @@ def shown(browser, desk, where):
     browser.until(lambda: browser.script(loaded), "its pictures")
 
 
-WIDE = """
-const wide = [];
-const main = document.getElementById("main");
-if (document.documentElement.scrollWidth > innerWidth) wide.push("the page");
-if (main.scrollWidth > main.clientWidth) wide.push("main");
-for (const card of document.querySelectorAll("#main .card")) {
-  const right = card.getBoundingClientRect().right;
-  for (const e of card.querySelectorAll("*")) {
-    if (e.closest(".scroll") && !e.matches(".scroll")) continue;
-    const box = e.getBoundingClientRect();
-    if (box.width && box.right > right + 1) wide.push(e.outerHTML.slice(0, 120));
-  }
-}
-for (const e of document.querySelectorAll("#top > *, #nav > *")) {
-  if (e.getBoundingClientRect().right > innerWidth + 1) wide.push(e.outerHTML.slice(0, 120));
-}
-return wide.slice(0, 4)
-"""
-
-
 @pytest.mark.parametrize("size", [(1280, 800), (1920, 1080)], ids=str)
 @pytest.mark.parametrize("screen", [*SCREENS, *PARTS])
 def test_nothing_is_cut_off(browser, desk, size, screen):
@@ -124,13 +104,6 @@ def test_texts_stand_out_from_what_is_behind_them(browser, desk, where):
     count, low = browser.script(CONTRAST)
     assert count > 10
     assert low == []
-
-
-NAMELESS = """
-return [...document.querySelectorAll("#main :is(input, select, button, textarea, a, img, iframe), #top input")]
-  .filter(e => !(e.getAttribute("aria-label") || e.title || e.alt || e.textContent.trim() || e.labels?.length))
-  .map(e => e.outerHTML.slice(0, 120))
-"""
 
 
 @pytest.mark.parametrize("screen", [*SCREENS, *PARTS])
