@@ -280,7 +280,7 @@ def feed_without_dilution(patch):
             "period 1 has 500000000 of mining, and by study.toml 600000000",
         ),
         (with_terms(lambda t: replace(t, sink=3)), "sink rate"),
-        (feed_without_dilution, "of feed, and by the table"),
+        (feed_without_dilution, "of mill, and by the table"),
     ],
 )
 def test_a_schedule_that_was_found_by_other_terms_is_told(tmp_path, monkeypatch, mistake, words):
