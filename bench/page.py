@@ -15,17 +15,15 @@ import time
 from pathlib import Path
 from types import SimpleNamespace
 
-PYTHON = "/usr/bin/python3"
-try:
-    import numpy as np
-    import pandas as pd
-except ModuleNotFoundError:
-    if sys.executable == PYTHON:
-        raise
-    os.execv(PYTHON, [PYTHON, *sys.argv])  # another Python on the path, without Debian's packages
+from debian_python import run_by_debian
+
+run_by_debian()  # before packages are imported
+
+import numpy as np
+import pandas as pd
 
 TOP = Path(__file__).resolve().parent.parent
-sys.path[:0] = [str(TOP / "python"), str(TOP / "python/tests")]
+sys.path[:0] = [str(TOP / "python"), str(TOP / "python/tests/support")]
 
 from browsers import chromium, opened
 from pitplan.views import page

@@ -24,14 +24,12 @@ from contextlib import contextmanager, redirect_stdout
 from functools import cache
 from pathlib import Path
 
-PYTHON = "/usr/bin/python3"
-try:
-    import numpy as np
-    import pandas as pd
-except ModuleNotFoundError:
-    if sys.executable == PYTHON:
-        raise
-    os.execv(PYTHON, [PYTHON, *sys.argv])  # another Python on the path, without Debian's packages
+from debian_python import PYTHON, run_by_debian
+
+run_by_debian()  # before packages are imported
+
+import numpy as np
+import pandas as pd
 
 HERE = Path(__file__).resolve().parent
 ROWS = HERE / "scale.csv"
@@ -240,10 +238,12 @@ def size(path):
         return 0
 
 
-def looked_through(path, risk):
+def looked_through(path):
     """What looking through a realisation costs, when the file is open."""
+    from pitplan.plans import grade_files
+
     grades, before = np.load(path, mmap_mode="r"), used()
-    risk.digest_of(risk.checked(grades[0], 0, path))
+    grade_files.digest_of(grade_files.checked(grades[0], 0, path))
     return {
         "step": "look",
         **{key: value - was for (key, value), was in zip(used().items(), before.values())},
@@ -256,7 +256,7 @@ def measured(name):
     """The rows of a model."""
     study, economics, risk = built(name)
     risk.prepare(study, economics, study.folder / "sims.npy", FACTORS)
-    rows = [looked_through(study.folder / "sims.npy", risk)]
+    rows = [looked_through(study.folder / "sims.npy")]
     rows += in_a_process("task", study, 0)
     rows += in_a_process("tables", study)
     sizes = {

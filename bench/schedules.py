@@ -16,14 +16,12 @@ import sys
 import time
 from pathlib import Path
 
-PYTHON = "/usr/bin/python3"
-try:
-    import numpy as np
-    import pandas as pd
-except ModuleNotFoundError:
-    if sys.executable == PYTHON:
-        raise
-    os.execv(PYTHON, [PYTHON, *sys.argv])  # another Python on the path, without Debian's packages
+from debian_python import PYTHON, run_by_debian
+
+run_by_debian()  # before packages are imported
+
+import numpy as np
+import pandas as pd
 
 import scale
 

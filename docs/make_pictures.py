@@ -5,7 +5,7 @@
 
 writes hill-slopes.png, hill-pit-by-pit.png, hill-plan.png, hill-section.png, hill-schedule-years.png, hill-schedule-section.png,
 hill-report.png and hill-design.png, and of the page in a headless Chromium hill-page.png, hill-page-pushbacks.png, hill-page-design.png
-and hill-likelihood.png, into FOLDER, docs/pictures unless told; and desk-prices.png, desk-slopes.png and desk-run.png, with --desk
+and hill-likelihood.png, into FOLDER (default: docs/pictures); and desk-prices.png, desk-slopes.png and desk-run.png, with --desk
 these alone. Needs `pit` (PIT, or the repository's build) and the packages of python/packages.
 """
 import base64

@@ -50,7 +50,7 @@ def pytest_collection_modifyitems(items):
 @pytest.fixture(scope="session", autouse=True)
 def program():
     """Every test needs `pit`: PIT, or the one on the path, or the repository's own build."""
-    from pitplan.pit.program import found_program
+    from pitplan.pit.process import found_program
 
     os.environ["PIT"] = found_program()
     return os.environ["PIT"]

@@ -4,13 +4,12 @@ with holes, with places below nothing, in any order of blocks, with up to four r
 Python looks at every pair of blocks and asks whether the place of the one less that of the other is listed for the region
 of the other. A pair is left out with --reduce where a third block is between by the same question.
 """
-import os
 import random
 import tempfile
-from concurrent.futures import ThreadPoolExecutor
 from itertools import product
 from pathlib import Path
 
+from program import many_mines
 from program.refused_calls import run
 
 MINES = 200
@@ -82,11 +81,5 @@ def wrong(program, seed):
 
 
 def try_all(program):
-    """Tries every mine, and gives how many were answered as they must be and how many not."""
-    with ThreadPoolExecutor(len(os.sched_getaffinity(0))) as pool:
-        results = list(pool.map(lambda seed: wrong(program, seed), range(MINES)))
-    for seed, line in enumerate(results):
-        if line:
-            print("mine of regions %d: %s" % (seed, line[:300]))
-    failed = sum(map(bool, results))
-    return MINES - failed, failed
+    """Tries every mine."""
+    return many_mines.tried("regions", lambda seed: wrong(program, seed), MINES)

@@ -7,15 +7,13 @@ places (`--method pseudoflow`), which has the same pit and another flow. One wit
 that of plain_check.py. The lines of shells and of a report are added up from the pits of
 certificates at the same factors.
 """
-import os
 import random
 import tempfile
 from collections import namedtuple
-from concurrent.futures import ThreadPoolExecutor
 from fractions import Fraction
 from pathlib import Path
 
-from program import plain_check, regions
+from program import many_mines, plain_check, regions
 from program.refused_calls import run
 
 MINES = 500
@@ -202,11 +200,5 @@ def wrong(program, seed):
 
 
 def try_all(program):
-    """Tries every mine, and gives how many were answered as they must be and how many not."""
-    with ThreadPoolExecutor(len(os.sched_getaffinity(0))) as pool:
-        results = list(pool.map(lambda seed: wrong(program, seed), range(MINES)))
-    for seed, line in enumerate(results):
-        if line:
-            print("mine of two texts %d: %s" % (seed, line[:300]))
-    failed = sum(map(bool, results))
-    return MINES - failed, failed
+    """Tries every mine."""
+    return many_mines.tried("two texts", lambda seed: wrong(program, seed), MINES)

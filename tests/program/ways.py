@@ -7,16 +7,14 @@ the first way of the greatest worth at the factor of the report, and the bench t
 here from those pits and from Python's own maximum. Without `--ways` both are the same but for these columns. Of one way the settings
 of a mill must give the same bytes.
 """
-import os
 import random
 import tempfile
 import tomllib
 from collections import namedtuple
-from concurrent.futures import ThreadPoolExecutor
 from fractions import Fraction
 from pathlib import Path
 
-from program import plain_check
+from program import many_mines, plain_check
 from program.refused_calls import run
 
 MINES = 1000
@@ -215,11 +213,5 @@ def wrong(program, seed):
 
 
 def try_all(program):
-    """Tries every mine, and gives how many were answered as they must be and how many not."""
-    with ThreadPoolExecutor(len(os.sched_getaffinity(0))) as pool:
-        results = list(pool.map(lambda seed: wrong(program, seed), range(MINES)))
-    for seed, line in enumerate(results):
-        if line:
-            print("mine of ways %d: %s" % (seed, line[:300]))
-    failed = sum(map(bool, results))
-    return MINES - failed, failed
+    """Tries every mine."""
+    return many_mines.tried("ways", lambda seed: wrong(program, seed), MINES)

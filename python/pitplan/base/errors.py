@@ -47,8 +47,8 @@ class Remedy:
 
     def as_data(self) -> dict[str, Any]:
         """It as JSON has it."""
-        told = {"value": self.value, "when": self.when, "adds": self.adds, "other": self.other}
-        return {"key": list(self.key), **told}
+        fields = {"value": self.value, "when": self.when, "adds": self.adds, "other": self.other}
+        return {"key": list(self.key), **fields}
 
     def __str__(self) -> str:
         value = list(dict.fromkeys([*self.has, *self.value])) if self.adds else self.value

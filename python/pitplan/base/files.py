@@ -52,10 +52,10 @@ def whole_file(target: str | os.PathLike[str]) -> Iterator[Path]:
         raise
 
 
-def write_json(path: Path, told: Any) -> None:
+def write_json(path: Path, content: Any) -> None:
     """Writes a JSON file, there whole or not at all. Raises OSError where that can't be done."""
     with whole_file(path) as part:
-        part.write_text(json.dumps(told, indent=1, ensure_ascii=False) + "\n", "utf-8")
+        part.write_text(json.dumps(content, indent=1, ensure_ascii=False) + "\n", "utf-8")
 
 
 def put_aside(path: Path) -> Path:

@@ -119,7 +119,7 @@ def _wrong_pushbacks(plan: StudyFile, folder: Path) -> list[PlanError]:
     return []
 
 
-def _order_said(told: Mapping[str, Any]) -> list[str]:
+def _order_said(terms: Mapping[str, Any]) -> list[str]:
     """In which order pushbacks will be dug, by [schedule]; nothing where it has none.
 
     >>> print(*_order_said({"pushbacks": [0.5, 0.8], "lead": 2}), sep="\\n")
@@ -128,15 +128,15 @@ def _order_said(told: Mapping[str, Any]) -> list[str]:
       2: what the pit of factor 0.8 adds
       3: the rest of the best pit
     """
-    shares = told["pushbacks"] or []
+    shares = terms["pushbacks"] or []
     if not shares:
         return []
-    ahead = f", each {told['lead']} bench{'es' * (told['lead'] > 1)} ahead of those after it"
+    ahead = f", each {terms['lead']} bench{'es' * (terms['lead'] > 1)} ahead of those after it"
     first, *more = (f"{share:g}" for share in shares)
     parts = [f"the pit of factor {first}"]
     parts += [f"what the pit of factor {share} adds" for share in more]
     return [
-        f"pushbacks, dug in this order by [schedule]{ahead if told['lead'] else ''}:",
+        f"pushbacks, dug in this order by [schedule]{ahead if terms['lead'] else ''}:",
         *(f"  {n}: {part}" for n, part in enumerate([*parts, "the rest of the best pit"], 1)),
     ]
 

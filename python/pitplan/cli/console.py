@@ -98,8 +98,8 @@ STUDY: Any = typer.Argument(
 
 def and_study(metavar: str, what: str) -> Any:
     """The argument of a command that takes a study, which may be left out, and one more word; `study_and` parts them."""
-    told = f"The folder of the study (default: this one), and {what}"
-    return typer.Argument(..., metavar=f"[STUDY] {metavar}", help=told)
+    text = f"The folder of the study (default: this one), and {what}"
+    return typer.Argument(..., metavar=f"[STUDY] {metavar}", help=text)
 
 
 def study_and(name: str, pair: Sequence[str]) -> tuple[Path, str]:

@@ -252,7 +252,8 @@ def _refuse_another(setup: Setup, factors: str, metal: Optional[str], folder: Pa
 
 def _tell_means(study: Study, setup: Setup) -> None:
     """Says where the realisations aren't true to the table on the mean."""
-    from ..plans.risk import NOT_ALIKE, means
+    from ..plans.grade_files import NOT_ALIKE
+    from ..plans.risk import means
 
     with err.status("the realisations beside the table"):
         found = means(study, setup)

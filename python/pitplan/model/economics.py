@@ -32,14 +32,9 @@ from ..base.units import metal_in_a_tonne
 from ..table.column_names import AIR
 from ..table.csv_text import not_estimated
 from ..table.formula import names_in, worked_out
-from ..table.study_keys import (
-    METALS,
-    MOST_PROCESSES,
-    PROCESSES,
-    missing_in,
-    of_percent,
-    refuse_wrong,
-)
+from ..table.study_keys import METALS, PROCESSES
+from ..table.value_kinds import MOST_PROCESSES
+from ..table.wrong_values import missing_in, of_percent, refuse_wrong
 from .classes import of_waste
 from .model import Model
 from .subblocks import coded

@@ -35,7 +35,7 @@ from ..table.csv_text import (
     read_frame,
 )
 from ..base.units import Units
-from ..table.study_keys import refuse_wrong
+from ..table.wrong_values import refuse_wrong
 from . import gaps, subblocks, weights
 from .grid import Grid
 from .weights import ORE, TOPOGRAPHY

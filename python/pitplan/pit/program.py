@@ -3,61 +3,29 @@ planner's terms."""
 from __future__ import annotations
 
 import gzip
-import hashlib
 import math
-import os
 import re
-import shutil
-import signal
-import subprocess
-import sys
-import threading
 import time
-from collections.abc import Callable, Iterable, Iterator, Mapping, Sequence
-from contextlib import contextmanager, nullcontext
+from collections.abc import Callable, Iterator, Sequence
+from contextlib import nullcontext
 from dataclasses import InitVar, dataclass
 from functools import cached_property
 from pathlib import Path
-from typing import Union
 
 import numpy as np
 
 from ..base.arrays import Bools, Ints
-from ..base.errors import Disagreement, Killed, MachineError, NotAccepted, PlanError
-from ..base.files import ROOM
-from ..base.stops import raise_if_asked
+from ..base.errors import Disagreement, NotAccepted, PlanError
 from ..base.units_shown import share_text
+from .certificate_lines import PitLines, packed, refuse_other_count
+from .process import Heard, OutOfTime, Process, Word, hint_of, left_until
 from .scheduled import Scheduled
 from .valued import Valued
 
 _Progress = Callable[[int, int], None]
-_Heard = Callable[[str], None]  # a line of `--progress`
-_Word = Union[str, int, Path]
-TOP = Path(__file__).resolve().parents[3]
-# where this repository's build puts it
-BUILT = (
-    TOP / "out" / "pit",
-    TOP / "crates" / "pit" / "out" / "pit",
-)
 _PIECE = 1 << 20
-_LARGE_PAGES = "glibc.malloc.hugetlb=1"  # a setting of the C library
-_HEAD = 4  # lines before the PIT lines of a certificate
-_AFTER_PITS = (b"SOURCE ", b"REST ", b"SINK ", b"END")
-_HINTS = {
-    "No space left on device": ROOM,
-    "Disk quota exceeded": ROOM,
-    "UNSETTLED": "the run was cut off before its pit was proved: tell the maintainers of this mine",
-    "TooLarge": (
-        "the amounts are too large together: rounding = 1000 in [economics], or prices and costs in"
-        " thousands"
-    ),
-    "memory": "memory was refused: fewer --workers",
-    "device": "a file couldn't be read or written: is the disk full?",
-}
 BEGUN = object()  # what only Pit.check hands to an Accepted, and Pit.series to a Stated
 MOST_FACTORS = 64  # of one run of `pit shells`
-_TOO_MANY_PAIRS = "fault: slope TooMany"  # what `pit` says of more than so many
-_PAIRS = 1 << 27
 _ABOVE = 1 << 30  # of a block that no pit of a series has: above all factors
 
 
@@ -152,7 +120,7 @@ class Files:
     settings: Path
     after = ""  # of the line of acceptance
 
-    def words(self) -> list[_Word]:
+    def words(self) -> list[Word]:
         return ["--blocks", self.blocks, "--settings", self.settings]
 
 
@@ -164,7 +132,7 @@ class Texts:
     upit: Path
     after = " GROUP WORTH"  # of the line of acceptance, since worths alone are counted
 
-    def words(self) -> list[_Word]:
+    def words(self) -> list[Word]:
         return ["--prec", self.prec, "--upit", self.upit]
 
 
@@ -176,7 +144,7 @@ class Periodic:
     uses: Path
     periods: Path
 
-    def words(self) -> list[_Word]:
+    def words(self) -> list[Word]:
         return [*self.texts.words(), "--uses", self.uses, "--periods", self.periods]
 
 
@@ -205,51 +173,14 @@ class Richest:
             raise TypeError("a Richest is made by Pit.richest alone")
 
 
-class _OutOfTime(Exception):
-    """A run took longer than it might."""
-
-
-def found_program() -> str:
-    """Where `pit` is: as PIT in the environment says, on the path, where this repository builds it,
-    or beside the command.
-
-    Raises
-    ------
-    PlanError
-        Where it is nowhere.
-    """
-    named = os.environ.get("PIT")
-    if named:
-        where = shutil.which(named)
-        if not where:
-            raise PlanError(f"PIT in the environment is {named!r}, and there is no such program")
-        return str(Path(where).resolve())
-    beside = Path(sys.argv[0]).resolve().parent / "pit"
-    where = shutil.which("pit") or next(
-        (str(path) for path in (*BUILT, beside) if os.access(path, os.X_OK)), None
-    )
-    if not where:
-        raise PlanError(
-            "the program pit isn't there",
-            try_this="./install in the repository, or PIT=/path/to/pit",
-        )
-    return where
-
-
-class Pit:
-    """The program `pit`.
+class Pit(Process):
+    """The program `pit`, command by command.
 
     Parameters
     ----------
     program : str or Path, optional
-        Where it is. Default: found as `found_program` says.
+        Where it is. Default: found as `process.found_program` says.
     """
-
-    def __init__(self, program: str | Path | None = None) -> None:
-        self.program = str(program) if program else found_program()
-        self.running: set[subprocess.Popen[bytes]] = set()
-        self.is_stopped = False
-        self.lock = threading.Lock()
 
     def version(self) -> list[str]:
         """The lines of ``pit --version``."""
@@ -296,7 +227,7 @@ class Pit:
         NotAccepted
             Where there was no certificate, or the check refuses it.
         """
-        more: list[_Word] = ["--progress"] if progress else []
+        more: list[Word] = ["--progress"] if progress else []
         said = self.run(
             ["solve", *files.words(), "--factor", factor, "--verbose", *more],
             certificate,
@@ -304,7 +235,7 @@ class Pit:
         )
         if said:
             raise NotAccepted(
-                f"pit solve at factor {share_text(factor)}: {said.strip()}", try_this=_hint_of(said)
+                f"pit solve at factor {share_text(factor)}: {said.strip()}", try_this=hint_of(said)
             )
         with packed(certificate) if keeps else nullcontext() as kept:
             found = self.check(files, certificate, kept)
@@ -330,7 +261,7 @@ class Pit:
         lines = PitLines()
         count, worth = self.judged(files, certificate, lines, kept)
         size, factor, blocks = lines.found()
-        _refuse_other_count(count, blocks)
+        refuse_other_count(count, blocks)
         return Accepted(count, worth, blocks, factor, lines.digest.hexdigest(), size, BEGUN)
 
     def judged(
@@ -348,24 +279,24 @@ class Pit:
         ------
         NotAccepted
             Where it doesn't answer ACCEPTED.
-        _OutOfTime
+        OutOfTime
             Where it was ended.
         """
         line = self.told_of(["check", *files.words()], certificate, lines, kept, seconds)
         found = re.fullmatch(r"ACCEPTED (\d+) (-?[\d.]+)" + files.after, line)
         if not found:
-            raise NotAccepted(f"pit check: {line}", try_this=_hint_of(line))
+            raise NotAccepted(f"pit check: {line}", try_this=hint_of(line))
         return int(found[1]), found[2]
 
     def told_of(
         self,
-        words: Sequence[_Word],
+        words: Sequence[Word],
         certificate: Path,
         lines: PitLines,
         kept: gzip.GzipFile | None = None,
         seconds: float | None = None,
     ) -> str:
-        """What `pit` says of a certificate, which it gets on its standard input. Raises _OutOfTime
+        """What `pit` says of a certificate, which it gets on its standard input. Raises OutOfTime
         where that takes longer than some seconds."""
         ends = math.inf if seconds is None else time.monotonic() + seconds
 
@@ -377,7 +308,7 @@ class Pit:
             ) as file:
                 while data := file.read(_PIECE):
                     if time.monotonic() >= ends:
-                        raise _OutOfTime
+                        raise OutOfTime
                     lines.take(data)
                     if kept:
                         kept.write(data)
@@ -411,12 +342,12 @@ class Pit:
         lines = PitLines()
         try:
             with packed(certificate) as kept:
-                count, worth = self.judged(texts, certificate, lines, kept, _left_until(ends))
-        except _OutOfTime:
+                count, worth = self.judged(texts, certificate, lines, kept, left_until(ends))
+        except OutOfTime:
             return None
         certificate.unlink()
         blocks = lines.numbers()
-        _refuse_other_count(count, blocks)
+        refuse_other_count(count, blocks)
         return Richest(worth, blocks, lines.digest.hexdigest(), BEGUN)
 
     def bound(
@@ -440,19 +371,19 @@ class Pit:
         if not self.solved(mine.words(), certificate, seconds):
             return None
         lines = PitLines()
-        words: list[_Word] = ["bound", *mine.words()]
+        words: list[Word] = ["bound", *mine.words()]
         try:
             with packed(certificate) as kept:
-                line = self.told_of(words, certificate, lines, kept, _left_until(ends))
-        except _OutOfTime:
+                line = self.told_of(words, certificate, lines, kept, left_until(ends))
+        except OutOfTime:
             return None
         found = re.fullmatch(r"BOUND (-?[\d.]+)", line)
         if not found:
-            raise NotAccepted(f"pit bound: {line}", try_this=_hint_of(line))
+            raise NotAccepted(f"pit bound: {line}", try_this=hint_of(line))
         certificate.unlink()
         return Richest(found[1], lines.numbers(), lines.digest.hexdigest(), BEGUN)
 
-    def solved(self, words: Sequence[_Word], certificate: Path, seconds: float | None) -> bool:
+    def solved(self, words: Sequence[Word], certificate: Path, seconds: float | None) -> bool:
         """Writes what `pit solve` finds; false where that takes longer.
 
         Raises
@@ -462,10 +393,10 @@ class Pit:
         """
         try:
             said = self.run(["solve", *words, "--verbose"], certificate, seconds=seconds)
-        except _OutOfTime:
+        except OutOfTime:
             return False
         if said:
-            raise NotAccepted(f"pit solve: {said.strip()}", try_this=_hint_of(said))
+            raise NotAccepted(f"pit solve: {said.strip()}", try_this=hint_of(said))
         return True
 
     def schedule(
@@ -484,10 +415,10 @@ class Pit:
         schedule : Path
             A text with the number of a block and its period in each line.
         """
-        priced: list[_Word] = [] if factor is None else ["--factor", factor]
-        words: list[_Word] = [*files.words(), *priced, "--uses", uses]
+        priced: list[Word] = [] if factor is None else ["--factor", factor]
+        words: list[Word] = [*files.words(), *priced, "--uses", uses]
         said = self.run(["schedule", *words, "--periods", periods, "--verbose", schedule])
-        return Scheduled.of_answer(said, _hint_of(said))
+        return Scheduled.of_answer(said, hint_of(said))
 
     def value(self, files: Files, design: Path, certificate: Path) -> Valued:
         """Lets `pit value` judge a design beside the pit of a certificate, at its factor.
@@ -505,7 +436,7 @@ class Pit:
             Where the certificate is refused.
         """
         said = self.run(["value", *files.words(), "--verbose", "--best", certificate, design])
-        return Valued.of_answer(said, _hint_of(said))
+        return Valued.of_answer(said, hint_of(said))
 
     @cached_property
     def states_blocks(self) -> bool:
@@ -545,7 +476,7 @@ class Pit:
         """
         settings, table = work / "series.toml", work / "by_block.csv"
         settings.write_text(files.settings.read_text() + f"factors = {list(factors)}\n")
-        words: list[_Word] = [
+        words: list[Word] = [
             *Files(files.blocks, settings).words(),
             "--by-block",
             table,
@@ -559,7 +490,7 @@ class Pit:
         )
         lines = re.findall(r"^SHELL (\d+) (\d+) (-?[\d.]+)$", said, re.MULTILINE)
         if not lines:
-            raise NotAccepted(f"pit shells: {said.strip()}", try_this=_hint_of(said))
+            raise NotAccepted(f"pit shells: {said.strip()}", try_this=hint_of(said))
         if [int(factor) for factor, _, _ in lines] != list(factors) or len(lines) != said.count(
             "\n"
         ):
@@ -573,203 +504,8 @@ class Pit:
             for factor, count, worth in lines
         ]
 
-    def run(
-        self,
-        words: Sequence[_Word],
-        out: Path | None = None,
-        heard: _Heard | None = None,
-        fed: Iterable[bytes] | None = None,
-        seconds: float | None = None,
-    ) -> str:
-        """Runs `pit`.
 
-        Parameters
-        ----------
-        words : sequence
-            Of its command line.
-        out : Path, optional
-            The file that its standard output is written to.
-        heard : function, optional
-            Is told each line that says how far it is.
-        fed : iterable of bytes, optional
-            What it gets on its standard input; all of it is gone through, also where `pit` reads no
-            more.
-        seconds : float, optional
-            After which it is ended. Default: never.
-
-        Returns
-        -------
-        str
-            Its standard output; with `out`, nothing where it is done, and the answer where that is
-            no.
-
-        Raises
-        ------
-        PlanError, MachineError
-            Where it ended with another status than 0 or 1, or by a signal: with its own words, and
-            what to try.
-        _OutOfTime
-            Where it was ended.
-        """
-        lines: list[str] = []
-        with open(out, "wb") if out else open(os.devnull, "wb") as target:
-            run = self.started(
-                words,
-                target.fileno() if out else subprocess.PIPE,
-                subprocess.PIPE if fed is not None else subprocess.DEVNULL,
-            )
-            ear = threading.Thread(target=_listen, args=(run, lines, heard), daemon=True)
-            ear.start()
-            try:
-                with _ending(run, seconds) as late:
-                    text, status = _said_by(run, fed or ())
-            finally:
-                ear.join()
-                with self.lock:
-                    self.running.discard(run)
-        if late.is_set() and status < 0:
-            raise _OutOfTime
-        if status == 1 and out:
-            return out.read_text(errors="replace")[:1000]
-        if status in (0, 1):
-            return text
-        raise self.ended(str(words[0]), status, " ".join(lines))
-
-    def started(self, words: Sequence[_Word], output: int, given: int) -> subprocess.Popen[bytes]:
-        """Starts `pit`, so that it ends when this process does: setpriv is of util-linux, which
-        Debian always has. Raises MachineError where it can't be started, and KeyboardInterrupt
-        after `stop`."""
-        setpriv = shutil.which("setpriv")
-        before = [setpriv, "--pdeathsig", "KILL", "--"] if setpriv else []
-        raise_if_asked()
-        with self.lock:
-            if self.is_stopped:
-                raise KeyboardInterrupt
-            try:
-                # ctrl-C is for this process, which ends it
-                run = subprocess.Popen(
-                    [*before, self.program, *map(str, words)],
-                    stdin=given,
-                    stdout=output,
-                    stderr=subprocess.PIPE,
-                    env=_with_large_pages(os.environ),
-                    process_group=0,
-                )
-            except OSError as error:
-                raise MachineError(f"{self.program} can't be started: {error.strerror}") from None
-            self.running.add(run)
-        return run
-
-    def stop(self) -> None:
-        """Ends all that runs, and starts nothing more."""
-        with self.lock:
-            self.is_stopped = True
-            for run in self.running:
-                _ended_now(run)
-
-    def restart(self) -> None:
-        """Lets runs be started again after `stop`."""
-        with self.lock:
-            self.is_stopped = False
-
-    def ended(self, command: str, status: int, fault: str) -> PlanError:
-        """The error of a run that ended with another status than 0 or 1."""
-        if self.is_stopped:
-            return MachineError("stopped")
-        if fault.endswith(_TOO_MANY_PAIRS):
-            return PlanError(
-                "[slopes] the offsets make more pairs of a block and a predecessor over this model"
-                f" than pit holds, {_PAIRS:,}",
-                try_this="fewer levels in [slopes], steeper angles, or larger blocks",
-                key=("slopes",),
-            )
-        how = (
-            f"was ended by {signal.Signals(-status).name}"
-            if status < 0
-            else f"ended with status {status}"
-        )
-        said = f"pit {command} {how}" + (f": {fault}" if fault else "")
-        if status == -signal.SIGKILL:
-            hint = "fewer --workers: memory was short, or somebody ended it"
-            return Killed(said, try_this=hint)
-        kind = MachineError if status < 0 or status == 4 else PlanError
-        return kind(said, try_this=_hint_of(fault))
-
-
-@contextmanager
-def packed(certificate: Path) -> Iterator[gzip.GzipFile]:
-    """The packed file beside a certificate, for its bytes."""
-    with (
-        open(certificate.with_name(certificate.name + ".gz"), "wb") as target,
-        gzip.GzipFile("", "wb", 1, target, mtime=0) as kept,
-    ):
-        yield kept
-
-
-def _with_large_pages(around: Mapping[str, str]) -> dict[str, str]:
-    """An environment in which the C library asks the system for large pages, unless it says
-    otherwise itself: of two values the last one counts."""
-    own = around.get("GLIBC_TUNABLES")
-    return {**around, "GLIBC_TUNABLES": ":".join([_LARGE_PAGES] + ([own] if own else []))}
-
-
-def _ended_now(run: subprocess.Popen[bytes]) -> None:
-    """Ends a run and all that it started: it is the first of a process group of its own."""
-    if run.poll() is None:
-        os.killpg(run.pid, signal.SIGKILL)
-
-
-def _said_by(run: subprocess.Popen[bytes], pieces: Iterable[bytes]) -> tuple[str, int]:
-    """What a run says that is given some bytes, and its status; it is ended where that fails."""
-    try:
-        _feed(run, pieces)
-        text = run.stdout.read().decode(errors="replace") if run.stdout else ""
-        return text, run.wait()
-    except BaseException:
-        _ended_now(run)
-        run.wait()
-        raise
-
-
-@contextmanager
-def _ending(run: subprocess.Popen[bytes], seconds: float | None) -> Iterator[threading.Event]:
-    """Ends a run after some seconds, unless it is done before; the event says that it did."""
-    late = threading.Event()
-
-    def end() -> None:
-        late.set()
-        _ended_now(run)
-
-    timer = threading.Timer(max(seconds or 0.0, 0.0), end)
-    if seconds is not None:
-        timer.start()
-    try:
-        yield late
-    finally:
-        timer.cancel()
-
-
-def _left_until(ends: float | None) -> float | None:
-    """The seconds until then; None where nothing ends."""
-    return None if ends is None else ends - time.monotonic()
-
-
-def _hint_of(said: str) -> str | None:
-    return next((hint for key, hint in _HINTS.items() if key in said), None)
-
-
-def _listen(run: subprocess.Popen[bytes], lines: list[str], heard: _Heard | None) -> None:
-    """Takes in what `pit` says on standard error: how far it is, and what is wrong."""
-    assert run.stderr is not None
-    for raw in run.stderr:
-        line = raw.decode(errors="replace").rstrip()
-        if not line.startswith("progress:"):
-            lines.append(line)
-        elif heard:
-            heard(line)
-
-
-def _settled(progress: _Progress) -> _Heard:
+def _settled(progress: _Progress) -> Heard:
     """Tells of how many blocks `pit solve` says that they are settled."""
 
     def heard(line: str) -> None:
@@ -780,7 +516,7 @@ def _settled(progress: _Progress) -> _Heard:
     return heard
 
 
-def _each_proved(proved: Callable[[int], None]) -> _Heard:
+def _each_proved(proved: Callable[[int], None]) -> Heard:
     """Tells each factor of which `pit shells` says that its pit is proved."""
 
     def heard(line: str) -> None:
@@ -825,93 +561,3 @@ def _shell_of_blocks(table: Path, factors: Sequence[int]) -> Ints:
         )
     first: Ints = np.nan_to_num(shell, nan=float(_ABOVE)).astype(np.int64)
     return first
-
-
-def _feed(run: subprocess.Popen[bytes], pieces: Iterable[bytes]) -> None:
-    """Hands bytes to a run, as long as it takes them."""
-    takes = run.stdin is not None
-    for piece in pieces:
-        try:
-            if takes and run.stdin:
-                run.stdin.write(piece)
-        except BrokenPipeError:
-            takes = False
-    try:
-        if run.stdin:
-            run.stdin.close()
-    except BrokenPipeError:
-        pass
-
-
-class PitLines:
-    """The PIT lines of a certificate that goes by in pieces, and the sha256 of all of it; the flow
-    is only digested.
-
-    Attributes
-    ----------
-    digest : hash object
-    """
-
-    def __init__(self) -> None:
-        self.digest = hashlib.sha256()
-        self.rest, self.head, self.is_over = b"", list[bytes](), False
-        self.blocks: list[Ints] = []
-
-    def take(self, data: bytes) -> None:
-        """Takes in the next piece."""
-        self.digest.update(data)
-        if self.is_over:
-            return
-        data = self.rest + data
-        if not self.head:
-            if data.count(b"\n") < _HEAD:
-                self.rest = data
-                return
-            *self.head, data = data.split(b"\n", _HEAD)
-        cut = data.rfind(b"\n") + 1
-        piece, self.rest = data[:cut], data[cut:]
-        ends = [at for at in map(piece.find, _AFTER_PITS) if at >= 0]
-        if ends:
-            piece, self.is_over = piece[: min(ends)], True
-        self.blocks.append(_numbers_in(piece))
-
-    def found(self) -> tuple[int, int, Ints]:
-        """How many blocks the certificate's model has, its factor in thousandths, and the blocks of
-        its PIT lines.
-
-        Raises
-        ------
-        NotAccepted
-            Where its first lines say neither.
-        """
-        size, factor = (
-            self.head[i].split()[-1] if len(self.head) == _HEAD and self.head[i] else b""
-            for i in (1, 2)
-        )
-        if not factor.isdigit() or not size.isdigit():
-            raise NotAccepted("a certificate without a factor: is it of another kind of model?")
-        return int(size), int(factor), self.numbers()
-
-    def numbers(self) -> Ints:
-        """The blocks of the PIT lines."""
-        return np.concatenate(self.blocks) if self.blocks else np.empty(0, np.int64)
-
-
-def _refuse_other_count(count: int, blocks: Ints) -> None:
-    """Refuses PIT lines of another number than `pit check` counts."""
-    if len(blocks) != count:
-        raise NotAccepted(
-            f"pit check counts {count} blocks, and the certificate has {len(blocks)} PIT lines"
-        )
-
-
-def _numbers_in(lines: bytes) -> Ints:
-    """The numbers of lines ``PIT b``."""
-    if lines.translate(None, b"0123456789PIT \n"):
-        raise NotAccepted("a certificate has other lines between its PIT lines")
-    if not lines:
-        return np.empty(0, np.int64)
-    found: Ints = np.fromstring(lines.replace(b"PIT ", b"").decode(), dtype=np.int64, sep="\n")
-    if len(found) != lines.count(b"\n"):
-        raise NotAccepted("a certificate has other lines between its PIT lines")
-    return found

@@ -14,7 +14,7 @@ from typing import Any
 
 from ..base.errors import KeyPath, PlanError
 from ..base.units_shown import length_text
-from ..table.study_keys import has_ramp
+from ..table.value_kinds import has_ramp
 from .offsets import Angles
 
 _STEEPEST_GRADE = 0.3  # of a ramp: what is more was told in percent

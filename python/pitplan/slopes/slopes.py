@@ -20,7 +20,9 @@ from ..model.grid import Grid
 from ..model.model import Model
 from ..model.subblocks import coded
 from ..table.formula import is_formula, names_in, text_of, words_out
-from ..table.study_keys import has_ramp, keys_of, refuse_wrong
+from ..table.study_keys import keys_of
+from ..table.value_kinds import has_ramp
+from ..table.wrong_values import refuse_wrong
 from . import offsets
 from .listed import offsets_listed, slopes_text
 from .offsets import Angles, Offset, Outline, Pattern
@@ -130,14 +132,18 @@ class Slopes:
         """The regions: "default", and those with angles of their own."""
         return [DEFAULT, *(self.regions or {})]
 
-    def told(self, region: str) -> Angles:
+    def angles_of(self, region: str) -> Angles:
         """The angles of a region as study.toml has them."""
         return self.angles if region == DEFAULT else (self.regions or {})[region]
 
     def wall(self, region: str, size: tuple[float, float, float], rotation: float) -> offsets.Wall:
         """What is asked for in a region: the overall slope, where ramps pass it that with the
         ramps. Raises PlanError where angles are out of range."""
-        angles, where, ramp = self.told(region), _angles_key(region), ramp_of(self.ramp, region)
+        angles, where, ramp = (
+            self.angles_of(region),
+            _angles_key(region),
+            ramp_of(self.ramp, region),
+        )
         try:
             offsets.wall(size, angles, rotation)  # angles out of range are told as they were asked
             return offsets.wall(size, ramp.of_angles(angles) if ramp else angles, rotation)
@@ -163,7 +169,7 @@ class Slopes:
         """What a region's walls are built of, lengths in a unit; before it, where ramps pass them,
         which overall angles come of those between ramps, and why."""
         ramp, pattern = ramp_of(self.ramp, region), self.patterns(grid)[region]
-        said = [ramp.spelled(self.told(region), unit)] if ramp else []
+        said = [ramp.spelled(self.angles_of(region), unit)] if ramp else []
         return [f"{region}: {line}" for line in (*said, str(pattern))]
 
     def _pattern_of(self, region: str, wall: offsets.Wall) -> Pattern:

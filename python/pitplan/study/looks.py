@@ -25,7 +25,8 @@ from ..model.model import Model, TableKeys
 from .plausible import strange
 from ..table.column_names import AIR, columns_with, misnamed, said_of_misnamed
 from ..table.parts_of_blocks import is_part, remedy_of_part
-from ..table.study_keys import METALS, PROCESSES, has_ramp
+from ..table.study_keys import METALS, PROCESSES
+from ..table.value_kinds import has_ramp
 from ..slopes.offsets import MEAN, WORST, Outline, Pattern
 from ..slopes.ramps import ramp_of
 from ..slopes.slopes import Slopes
@@ -505,7 +506,7 @@ def of_ramps(slopes: Slopes, unit: str) -> Iterator[Strange]:
                 key,
             )
             continue
-        angles = slopes.told(name)
+        angles = slopes.angles_of(name)
         flat = {angles} if isinstance(angles, (int, float)) else {angle for _, angle in angles}
         for angle in sorted(flat)[-1:]:
             wide = ramp.height / math.tan(math.radians(angle))

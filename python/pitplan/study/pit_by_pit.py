@@ -12,7 +12,8 @@ import pandas as pd
 from ..base.amounts import THOUSAND, exact_sum
 from ..base.arrays import Array, Bools, Floats, Shorts
 from ..base.errors import PlanError, meant
-from ..table.study_keys import PROCESSES, refuse_wrong
+from ..table.study_keys import PROCESSES
+from ..table.wrong_values import refuse_wrong
 
 if TYPE_CHECKING:
     from .shells import Shells

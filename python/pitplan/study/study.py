@@ -33,7 +33,7 @@ class Study(Runs):
     ----------
     folder : str or Path
     program : Pit, optional
-        Found as `program.found_program` says unless given.
+        Default: found as `process.found_program` says.
     named : Path, optional
         How the user named the study, for the commands that a message names: its folder, or its
         study.toml.

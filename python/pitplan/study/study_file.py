@@ -27,7 +27,7 @@ from ..model.economics import Economics, Metal, Process
 from ..model.grid import Grid
 from ..model.model import Model, TableKeys, read_with
 from ..slopes.slopes import Slopes
-from ..table import study_keys
+from ..table import study_keys, value_kinds, wrong_values
 from ..table.csv_text import tables_like
 from . import toml_lines
 from .shells import factors, series_of
@@ -355,7 +355,7 @@ def _of_right_keys(
     elif name == "economics":
         right.setdefault(study_keys.METALS, [{}])
         for kind in study_keys.LISTS:
-            if study_keys.KINDS[kind].holds(right.get(kind)):
+            if value_kinds.KINDS[kind].holds(right.get(kind)):
                 right[kind] = [
                     _right_part(partly, (kind, part, at), wrong)
                     for at, part in enumerate(right[kind])
@@ -366,7 +366,7 @@ def _of_right_keys(
     elif name == "slopes":
         usual = study_keys.keys_of("slopes")["angles"].default
         bad = {error.key[2] for error in wrong if _is_of_region(error.key)}
-        if study_keys.is_table(right.get("regions")):
+        if value_kinds.is_table(right.get("regions")):
             regions = right["regions"].items()
             right["regions"] = {name: usual if name in bad else angles for name, angles in regions}
         if ("slopes", "by") in hidden and right.get("regions"):
@@ -475,10 +475,10 @@ def _wrong_in_section(
 ) -> list[PlanError]:
     """What is wrong with each key of a section, and with each of the metals and processes; the
     broken ones aren't missing."""
-    found = study_keys.wrong_in(section, values)
-    found += study_keys.missing_in(section, {**values, **{str(key[1]): True for key in broken}})
+    found = wrong_values.wrong_in(section, values)
+    found += wrong_values.missing_in(section, {**values, **{str(key[1]): True for key in broken}})
     for kind in study_keys.LISTS if section == "economics" else ():
-        if study_keys.KINDS[kind].holds(values.get(kind)):
+        if value_kinds.KINDS[kind].holds(values.get(kind)):
             for at, part in enumerate(values[kind]):
                 there = [key[3] for key in broken if key[1:3] == (kind, at) and len(key) > 3]
                 found += _wrong_in_part(kind, part, at, {str(name): True for name in there})
@@ -491,7 +491,7 @@ def _wrong_in_part(
     """What is wrong with each key of one of the metals or processes."""
     path = _part_path(kind, part, at)
     where = f"[economics] {_CALLED[kind]} {at + 1 if path[2] == at else path[2]}"
-    return study_keys.wrong_in(kind, part, where, path) + study_keys.missing_in(
+    return wrong_values.wrong_in(kind, part, where, path) + wrong_values.missing_in(
         kind, {**part, **broken}, where, path
     )
 
@@ -535,7 +535,7 @@ def _series(found: Any) -> list[int]:
     """The factors in thousandths: a series from, to, by; or a list of shares of the price."""
     try:
         if isinstance(found, Mapping):
-            return factors(*(float(found[key]) for key in study_keys.SERIES))
+            return factors(*(float(found[key]) for key in value_kinds.SERIES))
         return series_of(found)
     except PlanError as error:
         named = "" if error.what.startswith("factors") else "factors: "

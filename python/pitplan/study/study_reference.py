@@ -13,7 +13,8 @@ from pathlib import Path
 from typing import Any
 
 from ..base.errors import spelled
-from ..table.study_keys import KEYS, KINDS, LISTS, METALS, NEEDED, PROCESSES, SECTIONS, Key
+from ..table.study_keys import KEYS, LISTS, METALS, NEEDED, PROCESSES, SECTIONS, Key
+from ..table.value_kinds import KINDS
 
 _BEGIN, _END = "<!-- keys: made by study_reference.py -->\n", "<!-- end of keys -->\n"
 _HEAD = "| Key | What it says | What it may be | Unless given |\n|---|---|---|---|\n"

@@ -6,7 +6,8 @@ from collections.abc import Mapping
 from string import Template
 
 from ..base.errors import spelled
-from ..table.study_keys import KEYS, KINDS, METALS, SECTIONS, Key
+from ..table.study_keys import KEYS, METALS, SECTIONS, Key
+from ..table.value_kinds import KINDS
 
 _HEAD = (
     "# What pitplan works on. Every price, cost and angle is an example: put your own in its"

@@ -22,7 +22,7 @@ from typing import Any
 
 from ..base import kept_json
 from ..base.errors import STOPPED, MachineError, PlanError, in_a_line
-from ..pit.program import TOP, found_program
+from ..pit.process import TOP, found_program
 from ..plans.task_line import Task
 from ..study.study import Study
 from ..base.files import host

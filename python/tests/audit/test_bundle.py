@@ -19,7 +19,7 @@ import pytest
 from scipy.spatial import ConvexHull
 
 import mines
-from bundles import bundled
+from bundles import bundled, rechecked, summed
 from pitplan.audit import bundle, recheck
 from pitplan.model import economics
 from pitplan.slopes import offsets
@@ -62,37 +62,6 @@ def whole(tmp_path_factory):
 @pytest.fixture
 def copy(whole, tmp_path):
     return Path(shutil.copytree(whole, tmp_path / "copy"))
-
-
-def rechecked(folder, *words):
-    """The lines of recheck.py that aren't ok, and its exit status; a traceback is none of its answers."""
-    ran = subprocess.run(
-        [sys.executable, "-I", str(folder / "recheck.py"), *words, os.environ["PIT"]],
-        capture_output=True,
-        text=True,
-        cwd="/",
-    )
-    assert "Traceback" not in ran.stderr, ran.stderr
-    return [
-        line
-        for line in ran.stdout.splitlines()
-        if not line.startswith(("ok ", "look ", "sha256 of"))
-    ], ran.returncode
-
-
-def summed(folder):
-    """Makes the digests again, as somebody who changes a bundle would."""
-    names = sorted(
-        path.relative_to(folder).as_posix()
-        for path in folder.rglob("*")
-        if path.is_file() and path.name != bundle.SUMS
-    )
-    (folder / bundle.SUMS).write_text(
-        "".join(
-            f"{hashlib.sha256((folder / name).read_bytes()).hexdigest()}  {name}\n"
-            for name in names
-        )
-    )
 
 
 def test_it_holds(whole):
@@ -192,21 +161,23 @@ def test_air_above_steep_ground_is_no_strange_block(tmp_path):
 
 
 @pytest.mark.parametrize(
-    "place, tonnes, amounts, is_strange",
+    "place, tonnes, mining, ways, is_strange",
     [
-        ((0, 0, 3), 0, (0, 0, 0), False),
-        ((0, 0, 1), 0, (0, 0, 0), True),
-        ((1, 0, 3), 0, (0, 0, 0), True),
-        ((0, 0, 3), 5, (0, 0, 0), True),
-        ((0, 0, 3), 0, (0, 0, 7), True),
+        ((0, 0, 3), 0, 0, [(0, 0)], False),
+        ((0, 0, 3), 0, 0, [(0, 0), (0, 0)], False),
+        ((0, 0, 1), 0, 0, [(0, 0)], True),
+        ((1, 0, 3), 0, 0, [(0, 0)], True),
+        ((0, 0, 3), 5, 0, [(0, 0)], True),
+        ((0, 0, 3), 0, 7, [(0, 0)], True),
+        ((0, 0, 3), 0, 0, [(0, 0), (0, 7)], True),
     ],
 )
-def test_a_block_without_a_row_is_air_above_ground(place, tonnes, amounts, is_strange):
+def test_a_block_without_a_row_is_air_above_ground(place, tonnes, mining, ways, is_strange):
     """It stands above the highest row of its column, weighs nothing and costs nothing."""
     blocks = SimpleNamespace(
         places=[(0, 0, 0), (0, 0, 2), place],
         tonnes=[9, 9, tonnes],
-        amounts=[(0, 0, 1), (0, 0, 1), amounts],
+        amounts=[*[recheck.Amounts(((0, 0),), 1)] * 2, recheck.Amounts(tuple(ways), mining)],
     )
     assert recheck.added_without_need(blocks, [0, 1, -1]) == ([2] if is_strange else [])
 
@@ -1079,16 +1050,16 @@ def test_marks_with_a_comma_are_numbers(tmp_path):
         tmp_path, frame, mines.STUDY_TOML.replace("size =", 'absent = ["-99,0"]\nsize =')
     )
     (tmp_path / "t.csv").write_text(written)
-    told = read_study_file(told_at)
+    plan = read_study_file(told_at)
     study = Study.create(
-        told.path.parent, told.read_model(), told.economics, told.slopes, keys=told.digest
+        plan.path.parent, plan.read_model(), plan.economics, plan.slopes, keys=plan.digest
     )
     bundle.write_bundle(
-        study.shells(told.factors),
+        study.shells(plan.factors),
         tmp_path / "b",
-        told.path,
-        told.keys.dialect(told.table),
-        told.rates,
+        plan.path,
+        plan.keys.dialect(plan.table),
+        plan.rates,
     )
     lines, status = rechecked(tmp_path / "b")
     assert status == 0, lines
@@ -1457,28 +1428,28 @@ def test_no_path_of_the_planner_s_machine_is_in_it(tmp_path):
 
 def test_a_folder_that_is_there_is_left_alone(whole, tmp_path):
     (tmp_path / "there").mkdir()
-    told = read_study_file(whole.parent)
+    plan = read_study_file(whole.parent)
     with pytest.raises(PlanError, match="is there already"):
         bundle.write_bundle(
-            Study(whole.parent).shells(told.factors),
+            Study(whole.parent).shells(plan.factors),
             tmp_path / "there",
-            told.path,
-            told.keys.dialect(told.table),
+            plan.path,
+            plan.keys.dialect(plan.table),
         )
     assert not list((tmp_path / "there").iterdir())
 
 
 def test_a_table_that_has_changed_since_is_not_bundled(tmp_path):
-    told = read_study_file(mines.written_study(tmp_path / "s"))
+    plan = read_study_file(mines.written_study(tmp_path / "s"))
     shells = Study.create(
-        told.path.parent, told.read_model(), told.economics, told.slopes, keys=told.digest
-    ).shells(told.factors)
-    told.table.write_text(told.table.read_text().replace("SUL", "OXI", 1))
+        plan.path.parent, plan.read_model(), plan.economics, plan.slopes, keys=plan.digest
+    ).shells(plan.factors)
+    plan.table.write_text(plan.table.read_text().replace("SUL", "OXI", 1))
     with pytest.raises(
         PlanError, match="the table that the study was built from isn't there any more"
     ):
         bundle.write_bundle(
-            shells, tmp_path / "b", told.path, told.keys.dialect(told.table), told.rates
+            shells, tmp_path / "b", plan.path, plan.keys.dialect(plan.table), plan.rates
         )
     assert not (tmp_path / "b").exists()
 

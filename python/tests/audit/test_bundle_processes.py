@@ -2,48 +2,19 @@
 import csv
 import hashlib
 import json
-import os
 import re
 import shutil
-import subprocess
-import sys
 from pathlib import Path
 
 import pytest
 
 import two_ways
-from bundles import bundled
-from pitplan.audit.bundle import SUMS
+from bundles import bundled, rechecked, summed
 
 
 @pytest.fixture(scope="module")
 def whole(tmp_path_factory):
     return bundled(tmp_path_factory.mktemp("bundle"), two_ways.TEXT, two_ways.frame())
-
-
-def rechecked(folder, *words):
-    """The lines of recheck.py that aren't ok, and its exit status."""
-    ran = subprocess.run(
-        [sys.executable, "-I", str(folder / "recheck.py"), *words, os.environ["PIT"]],
-        capture_output=True,
-        text=True,
-        cwd="/",
-    )
-    assert "Traceback" not in ran.stderr, ran.stderr
-    lines = ran.stdout.splitlines()
-    return [line for line in lines if not line.startswith(("ok ", "look ", "sha256 of"))], (
-        ran.returncode
-    )
-
-
-def summed(folder):
-    """Makes the digests again, as somebody who changes a bundle would."""
-    paths = (path for path in folder.rglob("*") if path.is_file() and path.name != SUMS)
-    lines = [
-        f"{hashlib.sha256(path.read_bytes()).hexdigest()}  {path.relative_to(folder).as_posix()}\n"
-        for path in sorted(paths)
-    ]
-    (folder / SUMS).write_text("".join(lines))
 
 
 def test_it_holds_and_each_certificate_is_checked_plainly(whole):

@@ -8,7 +8,7 @@ from pathlib import Path
 import pytest
 
 from pitplan.audit import doctor
-from pitplan.pit import program
+from pitplan.pit import process
 from pitplan.base.errors import PlanError
 
 TOP = Path(__file__).resolve().parents[3]
@@ -60,14 +60,14 @@ def test_a_pit_beside_the_command_is_found_where_none_is_on_the_path(tmp_path, m
     beside, on_path = script(tmp_path / "bin" / "pit", ""), script(tmp_path / "other" / "pit", "")
     monkeypatch.delenv("PIT")
     monkeypatch.setattr(sys, "argv", [str(tmp_path / "bin" / "pitplan")])
-    monkeypatch.setattr(program, "BUILT", ())
+    monkeypatch.setattr(process, "BUILT", ())
     monkeypatch.setenv("PATH", str(tmp_path / "other"))
-    assert program.found_program() == on_path
+    assert process.found_program() == on_path
     monkeypatch.setenv("PATH", str(tmp_path))
-    assert program.found_program() == beside
+    assert process.found_program() == beside
     Path(beside).unlink()
     with pytest.raises(PlanError, match="the program pit isn't there"):
-        program.found_program()
+        process.found_program()
 
 
 def test_another_program_of_this_name_is_told(tmp_path):

@@ -215,6 +215,19 @@ def test_several_certificates_are_judged_in_one_reading_of_the_model(tmp_path, c
     assert len(read) == 1 + len(names)
 
 
+def said_of_unread(folder, texts, capsys):
+    """What plainly.py says of files with these bytes, which neither it nor `pit check` reads."""
+    for name, data in texts.items():
+        (folder / name).write_bytes(data)
+    names = {"--prec": "p", "--blocks": "b", "--settings": "s"}
+    words = [word for key, name in names.items() for word in (key, folder / name)]
+    line, status = plain([*words, folder / "c"], capsys)
+    assert status == 3
+    assert line.startswith("plainly: ")
+    assert checked([*words, folder / "c"])[1] == 3
+    return line
+
+
 @pytest.mark.parametrize(
     "text, what",
     [
@@ -227,45 +240,13 @@ def test_several_certificates_are_judged_in_one_reading_of_the_model(tmp_path, c
     ],
 )
 def test_a_model_that_cannot_be_read_is_told(tmp_path, capsys, text, what):
-    (tmp_path / "b").write_text(text)
-    (tmp_path / "p").write_text("")
-    (tmp_path / "s").write_text("revenue = 0\ncost = 1\n")
-    (tmp_path / "c").write_text("PITCERT 1\n")
-    words = [
-        "--prec",
-        tmp_path / "p",
-        "--blocks",
-        tmp_path / "b",
-        "--settings",
-        tmp_path / "s",
-        tmp_path / "c",
-    ]
-    line, status = plain(words, capsys)
-    assert status == 3
-    assert line.startswith("plainly: ")
-    assert what in line
-    assert checked(words)[1] == 3
+    settings = b"revenue = 0\ncost = 1\n"
+    texts = {"b": text.encode(), "p": b"", "s": settings, "c": b"PITCERT 1\n"}
+    assert what in said_of_unread(tmp_path, texts, capsys)
 
 
 def test_settings_that_are_no_text_are_told(tmp_path, capsys):
     """Without a word for it Python's own status is 1, which says that the certificate is refused."""
-    for name, data in {
-        "b": b"0 0 0 0 1 2\n",
-        "p": b"",
-        "s": b"revenue = 0\ncost = 1 # \xe9\n",
-        "c": b"PITCERT 1\n",
-    }.items():
-        (tmp_path / name).write_bytes(data)
-    words = [
-        "--prec",
-        tmp_path / "p",
-        "--blocks",
-        tmp_path / "b",
-        "--settings",
-        tmp_path / "s",
-        tmp_path / "c",
-    ]
-    line, status = plain(words, capsys)
-    assert status == 3
-    assert line.startswith("plainly: ")
-    assert checked(words)[1] == 3
+    settings = b"revenue = 0\ncost = 1 # \xe9\n"
+    texts = {"b": b"0 0 0 0 1 2\n", "p": b"", "s": settings, "c": b"PITCERT 1\n"}
+    said_of_unread(tmp_path, texts, capsys)

@@ -14,10 +14,8 @@ from pathlib import Path
 import mines
 import numpy as np
 import pytest
-from pitplan import Study
-from pitplan.audit.bundle import write_bundle
-from pitplan.schedule import Schedule, judged, plan as of_plan
-from pitplan.study.study_file import read_study_file
+from bundles import with_schedule
+from pitplan.schedule import judged, plan as of_plan
 
 RICH = mines.STUDY_TOML.replace("price = 8500", "price = 24000").replace(
     "mining = 2.0", "mining = 2.0\ndilution = 0.05"
@@ -26,20 +24,18 @@ PITPLAN = Path(__file__).resolve().parents[3] / "bin" / "pitplan"
 TERMS = "\n[schedule]\nyears = 6\nmining_rate = [600e3, 500e3]\nmill_rate = 400e3\n"
 
 
-def bundled(folder, terms):
-    """A bundle with a schedule, and that schedule."""
-    mines.written_study(folder / "s", mines.table(9, 8, 5, 5), RICH + terms)
-    plan = read_study_file(folder / "s")
-    Study.create(folder / "s", plan.read_model(), plan.economics, plan.slopes, None, plan.digest)
-    shells, told = Study(folder / "s").shells(plan.factors), plan.values["schedule"]
-    found = Schedule.of(shells, told, plan.rates, (0.005, 600))
-    dialect = plan.keys.dialect(plan.table)
-    write_bundle(shells, folder / "bundle", plan.path, dialect, plan.rates, told)
-    return folder / "bundle", found
+def found_wrong(whole, bundle, change, words):
+    """A copy of a bundle that is changed is refused, with a line that has these words."""
+    shutil.copytree(whole, bundle)
+    change(bundle)
+    status, said = checked(bundle)
+    assert status == 1, said
+    assert re.search(words, said), said
+    assert said.startswith("WRONG"), said
 
 
 def test_a_plan_of_other_terms_is_left_out_with_a_word(tmp_path):
-    bundled(tmp_path, TERMS)
+    with_schedule(tmp_path, mines.table(9, 8, 5, 5), RICH + TERMS)
     path = tmp_path / "s" / "study.toml"
     path.write_text(path.read_text().replace("mill_rate = 400e3", "mill_rate = 300e3"))
     words = [sys.executable, PITPLAN, "bundle", tmp_path / "s", tmp_path / "again"]
@@ -69,7 +65,7 @@ def checked(bundle):
     ],
 )
 def test_it_comes_to_the_same_amounts(tmp_path, more):
-    bundle, found = bundled(tmp_path, TERMS + more)
+    bundle, found = with_schedule(tmp_path, mines.table(9, 8, 5, 5), RICH + TERMS + more)
     status, said = checked(bundle)
     assert status == 0, said
     npv, bound = re.findall(r"worth (?:more than )?([\d,.]+)\n", said)
@@ -82,7 +78,9 @@ def test_it_comes_to_the_same_amounts(tmp_path, more):
 def with_ways(tmp_path_factory):
     """A bundle of a schedule with a choice of ways, pushbacks and a fixed cost."""
     more = 'cutoff = "by year"\npushbacks = [0.6]\nfixed_cost = 2e6\n'
-    return bundled(tmp_path_factory.mktemp("ways"), TERMS + more)[0]
+    return with_schedule(
+        tmp_path_factory.mktemp("ways"), mines.table(9, 8, 5, 5), RICH + TERMS + more
+    )[0]
 
 
 def told(**changes):
@@ -121,18 +119,14 @@ def later(bundle):
     ],
 )
 def test_what_is_changed_of_ways_pushbacks_and_costs_is_told(with_ways, tmp_path, change, words):
-    bundle = tmp_path / "bundle"
-    shutil.copytree(with_ways, bundle)
-    change(bundle)
-    status, said = checked(bundle)
-    assert status == 1, said
-    assert re.search(words, said), said
-    assert said.startswith("WRONG"), said
+    found_wrong(with_ways, tmp_path / "bundle", change, words)
 
 
 @pytest.fixture(scope="module")
 def whole(tmp_path_factory):
-    return bundled(tmp_path_factory.mktemp("bundle"), TERMS + "sink = 2\n")[0]
+    return with_schedule(
+        tmp_path_factory.mktemp("bundle"), mines.table(9, 8, 5, 5), RICH + TERMS + "sink = 2\n"
+    )[0]
 
 
 def test_the_checker_of_pits_takes_a_study_with_a_schedule(whole):
@@ -249,13 +243,7 @@ def of_terms(bundle):
     ],
 )
 def test_what_is_changed_is_told(whole, tmp_path, change, words):
-    bundle = tmp_path / "bundle"
-    shutil.copytree(whole, bundle)
-    change(bundle)
-    status, said = checked(bundle)
-    assert status == 1, said
-    assert re.search(words, said), said
-    assert said.startswith("WRONG"), said
+    found_wrong(whole, tmp_path / "bundle", change, words)
 
 
 def with_terms(change):
@@ -292,13 +280,13 @@ def feed_without_dilution(patch):
             "period 1 has 500000000 of mining, and by study.toml 600000000",
         ),
         (with_terms(lambda t: replace(t, sink=3)), "sink rate"),
-        (feed_without_dilution, "of feed, and by the table"),
+        (feed_without_dilution, "of mill, and by the table"),
     ],
 )
 def test_a_schedule_that_was_found_by_other_terms_is_told(tmp_path, monkeypatch, mistake, words):
     """Texts, bound and certificate agree with each other, and not with study.toml or the table."""
     mistake(monkeypatch)
-    bundle, _ = bundled(tmp_path, TERMS + "sink = 2\n")
+    bundle, _ = with_schedule(tmp_path, mines.table(9, 8, 5, 5), RICH + TERMS + "sink = 2\n")
     status, said = checked(bundle)
     assert status == 1, said
     assert re.search(words, said), said

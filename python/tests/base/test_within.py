@@ -19,7 +19,7 @@ def nowhere_else(tmp_path, monkeypatch):
 def test_nothing_is_read_outside_the_folder(tmp_path, nowhere_else):
     from pitplan.study.check import check
     from pitplan.plans.design import by_file
-    from pitplan.plans.risk import open_realisations
+    from pitplan.plans.grade_files import open_realisations
     from pitplan.study.study_file import read_study_file
 
     folder = written_study(nowhere_else / "s")

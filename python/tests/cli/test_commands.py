@@ -26,10 +26,10 @@ def test_from_a_table_to_shells(tmp_path):
     f.to_csv(tmp_path / "mine.csv", index=False)
     assert pitplan("init", "mine.csv", cwd=tmp_path).returncode == 0
     study = tmp_path / "mine"
-    told = read_study_file(study)
-    assert told.keys.size == [20, 20, 15]
-    assert [m.name for m in told.economics.metals] == ["copper", "gold"]
-    assert told.table.resolve() == tmp_path / "mine.csv"
+    plan = read_study_file(study)
+    assert plan.keys.size == [20, 20, 15]
+    assert [m.name for m in plan.economics.metals] == ["copper", "gold"]
+    assert plan.table.resolve() == tmp_path / "mine.csv"
     text = (
         (study / "study.toml")
         .read_text()
@@ -335,9 +335,9 @@ def test_commas_beside_marks_and_column_names_of_ones_own(tmp_path):
     assert "pitplan init t.csv --column x=xx --column y=yy\n" in lost.stderr
     found = pitplan("init", "t.csv", "--column", "x=xx", "-c", "y=yy", cwd=tmp_path)
     assert found.returncode == 0, found.stderr
-    told = read_study_file(tmp_path / "t")
-    assert list(told.keys.absent) == ["-", "<0,01"]
-    assert "CU" in [m.grade for m in told.economics.metals]
+    plan = read_study_file(tmp_path / "t")
+    assert list(plan.keys.absent) == ["-", "<0,01"]
+    assert "CU" in [m.grade for m in plan.economics.metals]
     ran = pitplan("build", "t", cwd=tmp_path)
     assert ran.returncode == 0, ran.stderr
 
@@ -379,11 +379,11 @@ def test_a_table_as_excel_saves_it_in_peru(tmp_path):
     assert (
         'look: N/D stands for "not estimated" in LEY_ZN, and counts as 0' in found.stderr
     ), found.stderr
-    told = read_study_file(tmp_path / "t")
-    assert told.keys.encoding == "cp1252"
-    assert list(told.keys.absent) == ["N/D"]
-    assert [m.grade for m in told.economics.metals][0] == "LEY_ZN"
-    assert set(told.read_model().blocks.rock) >= {"Óxido"}
+    plan = read_study_file(tmp_path / "t")
+    assert plan.keys.encoding == "cp1252"
+    assert list(plan.keys.absent) == ["N/D"]
+    assert [m.grade for m in plan.economics.metals][0] == "LEY_ZN"
+    assert set(plan.read_model().blocks.rock) >= {"Óxido"}
 
 
 def test_a_mark_of_a_decimal_that_is_told_is_that_of_the_shells_too(tmp_path):

@@ -22,9 +22,9 @@ def guide_shells():
 def test_copper_has_the_shells_of_the_guide(tmp_path):
     for name in ("copper.csv", "study.toml"):
         shutil.copy(TOP / "examples" / "copper" / name, tmp_path / name)
-    told = read_study_file(tmp_path)
-    study = pp.Study.create(tmp_path, told.read_model(), told.economics, told.slopes)
-    shells = study.shells(told.factors)
+    plan = read_study_file(tmp_path)
+    study = pp.Study.create(tmp_path, plan.read_model(), plan.economics, plan.slopes)
+    shells = study.shells(plan.factors)
     assert [(v["factor"], v["count"], int(v["worth"])) for v in shells.verdicts] == guide_shells()
     assert len(guide_shells()) == 5
     amounts = [line.split()[4:7] for line in study.blocks_file.read_text().splitlines()]
@@ -60,6 +60,6 @@ def test_the_mine_of_run_example_is_that_of_the_walk():
     walk = "".join(line.removeprefix("    ") for line in text.splitlines(True))
     path = TOP / "examples" / "hill" / "study.toml"
     assert path.read_text() == walk.replace('"../examples/hill.csv"', '"../hill.csv"')
-    told = read_study_file(path.parent)
-    assert len(told.read_model()) == 5041
-    assert len(told.factors) == 9
+    plan = read_study_file(path.parent)
+    assert len(plan.read_model()) == 5041
+    assert len(plan.factors) == 9

@@ -237,7 +237,7 @@ def test_a_bundle_is_checked_by_the_same_classes(tmp_path):
         )
         return ran.stdout, ran.returncode
 
-    from pitplan.pit.program import found_program
+    from pitplan.pit.process import found_program
 
     pit = found_program()
     said, status = rechecked()

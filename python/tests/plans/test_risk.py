@@ -13,7 +13,7 @@ import pytest
 import pitplan as pp
 from mines import SIZE, costs, pairs_of, study_of, table, written_study
 from pitplan.study import edges
-from pitplan.plans import risk
+from pitplan.plans import grade_files, risk
 from pitplan.model.model import TableKeys
 from pitplan.tasks.task import Tasks
 from processes import command
@@ -299,7 +299,7 @@ def test_a_csv_of_realisations_may_have_semicolons_and_decimal_commas(
     pd.DataFrame(grades, columns=[f"s{i}" for i in range(2 * copies)]).to_csv(
         tmp_path / "sims.csv", index=False, sep=separator, decimal=decimal
     )
-    found, _ = risk.open_realisations(tmp_path / "sims.csv", tmp_path)
+    found, _ = grade_files.open_realisations(tmp_path / "sims.csv", tmp_path)
     assert (found == grades.T).all()
 
 
@@ -351,7 +351,7 @@ def test_marks_of_the_table_count_in_realisations_and_others_are_told_by_their_r
         risk.prepare(
             study, costs(), tmp_path / "sims.csv", [1000], keys=TableKeys(encoding="cp1252")
         )
-    found, _ = risk.open_realisations(
+    found, _ = grade_files.open_realisations(
         tmp_path / "sims.csv", tmp_path, study, TableKeys(encoding="cp1252", absent=["N/D"])
     )
     assert found[1, 7] == 0
@@ -492,7 +492,7 @@ def test_ids_that_the_study_doesnt_know_are_named(tmp_path):
     )
     given.to_csv(tmp_path / "sims.csv", index=False)
     with pytest.raises(pp.PlanError, match="column BLK") as error:
-        risk.of_table(tmp_path / "sims.csv", model, None)
+        grade_files.of_table(tmp_path / "sims.csv", model, None)
     known = (
         'columns = { x = "XC", y = "YC", z = "ZC", tonnes = "TONNES", rock = "ROCK", id = "BLK" }'
     )
@@ -502,7 +502,7 @@ def test_ids_that_the_study_doesnt_know_are_named(tmp_path):
         tmp_path / "sims.csv", index=False
     )
     with pytest.raises(pp.PlanError, match="column ONE") as error:
-        risk.of_table(tmp_path / "sims.csv", model, None)
+        grade_files.of_table(tmp_path / "sims.csv", model, None)
     assert "absent" in error.value.try_this
 
 
@@ -560,6 +560,6 @@ def test_realisations_that_have_nothing_to_do_with_the_table_are_told(tmp_path):
     setup = risk.prepare(study, costs(), tmp_path / "sims.npy", FACTORS)
     assert risk.means(study, setup).apart == (1, 3)
     few = np.arange(40.0)
-    assert risk.alike(few, few[::-1].copy())
-    assert not risk.alike(np.arange(60.0), np.arange(60.0)[::-1].copy() + 1)
-    assert risk.alike(np.ones(60), np.arange(60.0))
+    assert grade_files.alike(few, few[::-1].copy())
+    assert not grade_files.alike(np.arange(60.0), np.arange(60.0)[::-1].copy() + 1)
+    assert grade_files.alike(np.ones(60), np.arange(60.0))

@@ -6,9 +6,9 @@ from dataclasses import replace
 import mines
 import numpy as np
 import pytest
+from bundles import with_schedule
 from pitplan import Study
 from pitplan.audit import recheck_schedule
-from pitplan.audit.bundle import write_bundle
 from pitplan.pit.program import Pit
 from pitplan.schedule import Schedule, production
 from pitplan.schedule.cones import first_by_cones
@@ -117,18 +117,6 @@ def test_of_some_mines_it_is_lower(tmp_path):
     assert bounds[0] < 0.99 * bounds[1]
 
 
-def bundled(folder, more):
-    """A bundle with a schedule, and that schedule."""
-    mines.written_study(folder / "s", mines.table(6, 6, 5, 5), RICH + TERMS + more)
-    plan = read_study_file(folder / "s")
-    Study.create(folder / "s", plan.read_model(), plan.economics, plan.slopes, None, plan.digest)
-    shells, told = Study(folder / "s").shells(plan.factors), plan.values["schedule"]
-    found = Schedule.of(shells, told, plan.rates, (0.005, 600))
-    dialect = plan.keys.dialect(plan.table)
-    write_bundle(shells, folder / "bundle", plan.path, dialect, plan.rates, told)
-    return folder / "bundle", found
-
-
 def checked(bundle, monkeypatch, capsys):
     """What the bundle's checker says, in this process."""
     for script in (recheck_schedule, recheck_schedule.recheck):
@@ -139,7 +127,7 @@ def checked(bundle, monkeypatch, capsys):
 @pytest.mark.parametrize("more, mistakes", [("panel = 2\n", 3), ("pushbacks = [0.6]\n", 2)])
 def test_the_bundles_checker_counts_cones_too(tmp_path, monkeypatch, capsys, more, mistakes):
     """And refuses a bound by cones that have one block too many, or by one panel that may come later than its cone says."""
-    bundle, found = bundled(tmp_path / "right", more)
+    bundle, found = with_schedule(tmp_path / "right", mines.table(6, 6, 5, 5), RICH + TERMS + more)
     assert found.production.earliest.any()
     status, said = checked(bundle, monkeypatch, capsys)
     assert status == 0, said
@@ -178,7 +166,9 @@ def test_the_bundles_checker_counts_cones_too(tmp_path, monkeypatch, capsys, mor
 
     for mistake in (too_heavy, a_year_late, without_its_own)[:mistakes]:
         monkeypatch.setattr(production, "first_by_cones", mistake)
-        wrong, _ = bundled(tmp_path / mistake.__name__, more)
+        wrong, _ = with_schedule(
+            tmp_path / mistake.__name__, mines.table(6, 6, 5, 5), RICH + TERMS + more
+        )
         monkeypatch.setattr(production, "first_by_cones", first_by_cones)
         status, said = checked(wrong, monkeypatch, capsys)
         assert status == 1, said
@@ -187,7 +177,7 @@ def test_the_bundles_checker_counts_cones_too(tmp_path, monkeypatch, capsys, mor
 
 def test_a_bound_is_read_for_its_own_panels_alone(tmp_path):
     """One that was found for panels isn't there once the panel is changed, nor the one of blocks for panels."""
-    bundled(tmp_path, "panel = 2\n")
+    with_schedule(tmp_path, mines.table(6, 6, 5, 5), RICH + TERMS + "panel = 2\n")
     plan = read_study_file(tmp_path / "s")
     shells = Study(tmp_path / "s").shells(plan.factors)
     values = plan.values["schedule"]

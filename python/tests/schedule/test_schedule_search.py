@@ -3,7 +3,7 @@ what it counts, and none by the time."""
 from types import SimpleNamespace
 
 import pytest
-from pitplan.pit import program
+from pitplan.pit import process, program
 from pitplan.pit.program import Periodic, Pit, Texts
 from pitplan.schedule import search as searching
 from pitplan.schedule.search import Search
@@ -104,6 +104,6 @@ def test_no_more_of_a_certificate_is_handed_on_when_the_time_is_over(tmp_path, m
     eats.chmod(0o755)
     monkeypatch.setattr(program, "time", SimpleNamespace(monotonic=lambda: float(next(clock))))
     lines = SimpleNamespace(take=taken.append)
-    with pytest.raises(program._OutOfTime):
+    with pytest.raises(process.OutOfTime):
         Pit(eats).told_of(["check"], certificate, lines, seconds=3.0)
     assert len(taken) == 2

@@ -5,7 +5,7 @@ from decimal import Decimal
 import pytest
 from pitplan import PlanError
 from pitplan.schedule.terms import terms_of
-from pitplan.table.study_keys import wrong_in
+from pitplan.table.wrong_values import wrong_in
 
 RATES = {"mining_rate": 1000.0, "mill_rate": 400.0, "discount": 0.1}
 

@@ -14,11 +14,12 @@ import pytest
 import pitplan as pp
 from mines import SIZE, costs, pairs_of, shells_of, study_of, table, written_study
 from pitplan.base import machine
-from pitplan.pit import program as programs
+from pitplan.pit import process
 from pitplan.plans import risk, vary
 from pitplan.model import store
 from pitplan.study import workers
-from pitplan.pit.program import Accepted, Pit, PitLines
+from pitplan.pit.certificate_lines import PitLines
+from pitplan.pit.program import Accepted, Pit
 from pitplan.base.files import made_whole
 from processes import TOP, command, gone, waited_for, slow_pit
 from served import pitplan
@@ -661,19 +662,19 @@ def test_the_program_is_found_by_its_three_ways(tmp_path, monkeypatch):
     pit.write_text("#!/bin/sh\n")
     pit.chmod(0o755)
     monkeypatch.setenv("PIT", str(pit))
-    assert programs.found_program() == str(pit.resolve())
+    assert process.found_program() == str(pit.resolve())
     monkeypatch.setenv("PIT", str(tmp_path / "none"))
     with pytest.raises(pp.PlanError, match="PIT in the environment"):
-        programs.found_program()
+        process.found_program()
     monkeypatch.delenv("PIT")
     monkeypatch.setenv("PATH", str(tmp_path))
-    assert programs.found_program() == str(pit)
+    assert process.found_program() == str(pit)
     monkeypatch.setenv("PATH", "/nowhere")
-    monkeypatch.setattr(programs, "BUILT", (tmp_path / "none", pit))
-    assert programs.found_program() == str(pit)
-    monkeypatch.setattr(programs, "BUILT", ())
+    monkeypatch.setattr(process, "BUILT", (tmp_path / "none", pit))
+    assert process.found_program() == str(pit)
+    monkeypatch.setattr(process, "BUILT", ())
     with pytest.raises(pp.PlanError, match="isn't there"):
-        programs.found_program()
+        process.found_program()
 
 
 def test_words_of_pit_reach_the_planner(tmp_path):

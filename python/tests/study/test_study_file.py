@@ -67,12 +67,12 @@ def test_what_a_study_may_not_say(tmp_path, was, now, said):
 
 
 def test_what_a_study_says(tmp_path):
-    told = read_study_file(written_study(tmp_path / "s"))
-    assert told.factors == [600, 1000, 1200]
-    assert told.rates == {"mining_rate": 1e6, "mill_rate": 5e5, "discount": 0.08}
-    assert told.economics.metals[0].price == 8500
-    assert told.keys.size == [20, 20, 15]
-    assert told.table == tmp_path / "s" / "t.csv"
+    plan = read_study_file(written_study(tmp_path / "s"))
+    assert plan.factors == [600, 1000, 1200]
+    assert plan.rates == {"mining_rate": 1e6, "mill_rate": 5e5, "discount": 0.08}
+    assert plan.economics.metals[0].price == 8500
+    assert plan.keys.size == [20, 20, 15]
+    assert plan.table == tmp_path / "s" / "t.csv"
     again = read_study_file(
         written_study(
             tmp_path / "s",
@@ -82,12 +82,12 @@ def test_what_a_study_says(tmp_path):
         )
     )
     assert again.factors == [300, 600, 900, 1200]
-    assert again.digest == told.digest  # the factors are no part of a built model
+    assert again.digest == plan.digest  # the factors are no part of a built model
     assert (
         read_study_file(
             written_study(tmp_path / "s", text=STUDY_TOML.replace("mining = 2.0", "mining = 2.1"))
         ).digest
-        != told.digest
+        != plan.digest
     )
 
 

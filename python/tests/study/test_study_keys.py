@@ -10,7 +10,7 @@ import pytest
 import pitplan as pp
 from mines import STUDY_TOML, table, written_study
 from pitplan.study import first_look, study_reference, study_template
-from pitplan.table import study_keys
+from pitplan.table import study_keys, wrong_values
 from pitplan.model.economics import Economics, Metal
 from pitplan.base.errors import Remedy
 from pitplan.model.model import TableKeys
@@ -316,16 +316,16 @@ def test_the_first_wrong_cells_of_a_column_are_told(tmp_path):
     frame["CU"], frame["XC"] = frame["CU"].astype(object), frame["XC"].astype(object)
     frame.loc[[4, 7, *range(30, 60)], "CU"] = "N/S"
     frame.loc[5, "XC"] = "far"
-    told = read_study_file(written_study(tmp_path / "s", frame))
+    plan = read_study_file(written_study(tmp_path / "s", frame))
     with pytest.raises(pp.PlanError) as error:
-        told.read_model()
+        plan.read_model()
     assert error.value.row == 5
     assert error.value.column == "XC"
     frame.loc[5, "XC"] = 5000.0
     frame = frame.drop(5)
-    told = read_study_file(written_study(tmp_path / "s", frame))
+    plan = read_study_file(written_study(tmp_path / "s", frame))
     with pytest.raises(pp.PlanError) as error:
-        told.economics.priced(told.read_model())
+        plan.economics.priced(plan.read_model())
     assert error.value.row == 4
     assert [cell.row for cell in error.value.cells[:2]] == [6, 29]
     assert len(error.value.cells) == 19
@@ -348,7 +348,7 @@ def test_the_first_wrong_cells_of_a_column_are_told(tmp_path):
 )
 def test_a_number_with_separators_is_told_with_what_to_type(name, value, right, named):
     at = ("economics", METALS, "copper")
-    (error,) = study_keys.wrong_in(METALS, {name: value}, "copper:", at)
+    (error,) = wrong_values.wrong_in(METALS, {name: value}, "copper:", at)
     assert named in error.said
     assert error.remedy.key == (*at, name)
     assert error.remedy.value == right
@@ -360,11 +360,11 @@ def test_a_number_with_separators_is_told_with_what_to_type(name, value, right, 
 def test_both_readings_of_amounts_by_rock_are_whole_tables():
     by_rock = {"OXI": "1,250", "SUL": 3, "OVB": "2,5"}
     at = ("economics", "processing")
-    (error,) = study_keys.wrong_in("economics", {"processing": by_rock}, "[economics]", at[:1])
+    (error,) = wrong_values.wrong_in("economics", {"processing": by_rock}, "[economics]", at[:1])
     assert error.remedy.value == {"OXI": 1250, "SUL": 3, "OVB": 2.5}
     assert error.remedy.other == {"OXI": 1.25, "SUL": 3, "OVB": 2.5}
 
 
 @pytest.mark.parametrize("value", ["ZC", "2.0, 3", "where(ROCK == 'OXI', 0.7, 0.8)", "1,2,3"])
 def test_a_formula_is_no_number_with_separators(value):
-    assert study_keys.wrong_in(METALS, {"recovery": value}) == []
+    assert wrong_values.wrong_in(METALS, {"recovery": value}) == []

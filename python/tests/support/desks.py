@@ -20,6 +20,33 @@ ASKED = """return performance.getEntriesByType('resource').slice(-60)
 DRAWN = """return !document.querySelector('#main') || document.body.matches('.away, .shut')
     || document.documentElement.dataset.drawn === location.hash"""
 
+# what of a page is wider than the screen, or than its card
+WIDE = """
+const wide = [];
+const main = document.getElementById("main");
+if (document.documentElement.scrollWidth > innerWidth) wide.push("the page");
+if (main.scrollWidth > main.clientWidth) wide.push("main");
+for (const card of document.querySelectorAll("#main .card")) {
+  const right = card.getBoundingClientRect().right;
+  for (const e of card.querySelectorAll("*")) {
+    if (e.closest(".scroll") && !e.matches(".scroll")) continue;
+    const box = e.getBoundingClientRect();
+    if (box.width && box.right > right + 1) wide.push(e.outerHTML.slice(0, 120));
+  }
+}
+for (const e of document.querySelectorAll("#top > *, #nav > *")) {
+  if (e.getBoundingClientRect().right > innerWidth + 1) wide.push(e.outerHTML.slice(0, 120));
+}
+return wide.slice(0, 4)
+"""
+
+# fields and links without a name
+NAMELESS = """
+return [...document.querySelectorAll("#main :is(input, select, button, textarea, a, img, iframe), #top input")]
+  .filter(e => !(e.getAttribute("aria-label") || e.title || e.alt || e.textContent.trim() || e.labels?.length))
+  .map(e => e.outerHTML.slice(0, 120))
+"""
+
 
 # what reaches out of its card, or out of the page
 WIDE = """

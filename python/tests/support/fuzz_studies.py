@@ -251,12 +251,12 @@ def answer(folder, text, table, is_searched=True):
     (folder / "study.toml").write_text(text, "utf-8", "surrogatepass")
     (folder / "t.csv").write_bytes(table)
     try:
-        told = read_study_file(folder)
-        model = told.read_model()
-        told.economics.priced(model)
-        told.slopes.region_of(model)
+        plan = read_study_file(folder)
+        model = plan.read_model()
+        plan.economics.priced(model)
+        plan.slopes.region_of(model)
         if is_searched:
-            told.slopes.settings(model.grid)
+            plan.slopes.settings(model.grid)
     except PlanError as error:
         if not all(MESSAGE.fullmatch(str(each)) for each in error.each()):
             raise AssertionError(f"a message of another form: {str(error)!r}") from error
