@@ -291,6 +291,11 @@ def shown(function, path, clause):
     ]
 
 
+def without(cone, other):
+    """The definitions of a cone that the other hasn't."""
+    return {key: it for key, it in cone.definitions.items() if key not in other.definitions}
+
+
 def page(sources):
     """The text of the page."""
     clause, module = clause_of(sources.top / ENGINE, "check_engine", "answer")
@@ -301,8 +306,10 @@ def page(sources):
     rest = {key: every.definitions[key] for key in every.definitions if key not in accepted}
     bounding, module = clause_of(sources.top / BOUNDS, "bound_engine", "answer")
     bound = cone_of(sources, bounding, module)
-    own = {key: bound.definitions[key] for key in bound.definitions if key not in every.definitions}
-    unsaid = wordless(sources, [*every.definitions.values(), *own.values()])
+    nested = cone_of(sources, "AcceptedAreNested", sources.modules["engines.specs.Nested"])
+    two = without(nested, every)
+    own = {key: it for key, it in without(bound, every).items() if key not in two}
+    unsaid = wordless(sources, [*every.definitions.values(), *two.values(), *own.values()])
     if unsaid:
         raise SystemExit("\n".join(unsaid))
     files = {name for name, _ in accepted}
@@ -323,6 +330,13 @@ def page(sources):
     )
     lines += part(
         sources,
+        "Two accepted pits: %d more" % len(two),
+        "The last clause of the sentence is of two certificates, and is the contract of `accepted_pits_are_nested`. The last of "
+        "these definitions is `AcceptedAreNested`.",
+        two,
+    )
+    lines += part(
+        sources,
         "A `REFUSED` and a fault: %d more" % len(rest),
         "Whoever asks why a certificate was refused reads these too.",
         rest,
@@ -335,8 +349,8 @@ def page(sources):
         + "\n".join(shown("bound_engine", BOUNDS, bounding)).rstrip(),
         own,
     )
-    every.types |= bound.types
-    every.library |= bound.library
+    every.types |= bound.types | nested.types
+    every.library |= bound.library | nested.library
     return "\n".join(lines + leaves(every))
 
 

@@ -18,7 +18,7 @@ node_rests n periods lag waits pairs i j = rests_by_period n periods (has_pair p
 abbrev pub is_early : (n lag : ℕ) → List (ℕ × ℕ) → ℕ → Bool
 is_early n lag waits i = nat_lt (i / n) lag && list_any (λ q. q.0 == i % n) waits
 
--- What such a node is worth less: 10^15 units, so that no pit gains by it.
+-- What such a node is worth less: 10^15 units. A pit gains by it only where what rests on it brings more; the bound holds all the same.
 abbrev pub withheld : Bool → ℤ
 withheld early = cond early (pos 1000000000000000000000000000000) (pos 0)
 

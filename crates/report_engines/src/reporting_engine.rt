@@ -40,7 +40,8 @@ use workers::Gate;
 /// In this order:
 ///
 /// - `Settings` for a fault of this text, or for the first missing key of `revenue`, `cost`, `tonnes`, `factors`, or with
-///   a mill of `revenue`, `tonnes`, `factors`, `processing`, `mining`;
+///   a mill of `revenue`, `tonnes`, `factors`, `processing`, `mining`, or with ways of `tonnes`, `factors`, `mining`; of
+///   `slopes` too where no precedence is read;
 /// - `Blocks`; `Prices` for a negative revenue; `Prec`;
 /// - `Model` where an amount of the mine's net doesn't fit at one of the factors.
 ///
