@@ -38,7 +38,7 @@ accepted_are_nested s t p s' t' p' lower higher j k count count' worth worth' na
     let above = rests_of (texts_by s t p j) in
     let here = mine_is s t p j low.read.blocks (table_size s t p j low.read.blocks low.read.mine.worths_read) in
     let there = mine_is s' t' p' k high.read.blocks (table_size s' t' p' k high.read.blocks high.read.mine.worths_read)
-          ∙ same_mine above (rests_of (texts_by s' t' p' k)) table (table_of s' t') k (one.rests j k) one.prices in
+    ∙ same_mine above (rests_of (texts_by s' t' p' k)) table (table_of s' t') k (one.rests j k) one.prices in
     let e = holds_of low.read.pit in
     let c = holds_of high.read.pit in
     let L : Mine → Type 0 = λ m. IsBest m e in
