@@ -51,7 +51,20 @@ def size_rows(results):
         "| %s | %s | %s | %s |" % (row[1], row[2], seconds(row[4]), megabytes(row[7]))
         for row in whole.values()
     ]
-    return readme, guide
+    return readme, [*guide, of_places(results)]
+
+
+def of_places(results):
+    """What GUIDE says of a mine whose settings list the slopes."""
+    title = "## `pit solve` over places"
+    offsets = re.search(r"settings with (\d+) offsets", results[results.index(title) :])[1]
+    *_, (blocks, _, took, memory) = table_of(results, title).values()
+    return "%s blocks with %s offsets took `solve` %s and %s" % (
+        blocks,
+        offsets,
+        seconds(took.split()[0]),
+        megabytes(memory.split()[0]),
+    )
 
 
 def commas(number):
