@@ -151,7 +151,7 @@ class Priced:
         return self.only.feed
 
     @property
-    def names(self) -> list[str]:
+    def process_names(self) -> list[str]:
         """Those of the processes, where there are several; else none: then tables don't tell them
         apart."""
         return [way.name for way in self.ways] if len(self.ways) > 1 else []
@@ -269,15 +269,15 @@ class Priced:
             found[self.forbidden] = np.nan
         return found
 
-    def milled(self, factor: int) -> Bools:
+    def treated(self, factor: int) -> Bools:
         """Whether a block, once it is dug, is treated at a factor (in thousandths)."""
-        milled: Bools = self.way_of(factor) > 0
-        return milled
+        treated: Bools = self.way_of(factor) > 0
+        return treated
 
     def ore_of(self, tonnes: Floats, factor: int) -> Floats:
         """The tonnes of each block that are treated at a factor (in thousandths), once it is dug;
         `tonnes` are those of the blocks."""
-        found: Floats = tonnes * self.milled(factor)
+        found: Floats = tonnes * self.treated(factor)
         return found if self.part is None else found * self.part
 
     def feeds_of(self, tonnes: Floats, factor: int) -> list[Floats]:

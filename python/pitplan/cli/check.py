@@ -12,7 +12,7 @@ from ..base.errors import ENDED, Gathered, PlanError
 from ..base.next_command import command
 from ..base.units_shown import counted
 from . import console
-from .build import print_tonnage, tell_strange
+from .tables import print_tonnage, tell_strange
 from .console import STUDY, app, err, say
 
 if TYPE_CHECKING:

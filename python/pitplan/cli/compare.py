@@ -8,7 +8,7 @@ from typing import TYPE_CHECKING, Any, List, Optional
 import typer
 from ..base.errors import PlanError
 from ..base.units_shown import length_text, printed_scale, share_text
-from .build import print_kinds
+from .tables import print_kinds
 from .console import STUDY, app, described, err, open_study, results, say
 
 if TYPE_CHECKING:

@@ -16,7 +16,7 @@ from ..base.units_shown import (
     printed_scale,
     share_text,
 )
-from .build import print_kinds
+from .tables import print_kinds
 from .console import and_study, app, err, print_columns, results, say, study_and, warn
 
 if TYPE_CHECKING:

@@ -67,7 +67,7 @@ def _years_of(plan: StudyFile, shells: Shells) -> Schedule | None:
             f" those of study.toml now\n  try: {command('schedule', shells.study.named)}, and report again"
         )
     else:
-        older.of_schedule(found.digest)
+        older.watch_schedule(found.digest)
     return found
 
 

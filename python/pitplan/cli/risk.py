@@ -14,7 +14,7 @@ from ..base import events
 from ..base.errors import PlanError
 from ..base.next_command import command
 from ..base.units_shown import counted, printed_scale
-from .build import print_rock_of_classes
+from .tables import print_rock_of_classes
 from .console import (
     STUDY,
     app,
@@ -197,7 +197,7 @@ def _write_risk_of_schedule(study: Study, schedule: Schedule) -> None:
     )
     if found.over.max() > 0:
         most, treated = "the mill's rate", "milled"
-        if study.priced.names:
+        if study.priced.process_names:
             most, treated = "the rate of its process", "treated"
         warn(
             f"under {int((found.over > 0).sum()):,} of them a period has more feed than {most}, up to"

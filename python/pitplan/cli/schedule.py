@@ -94,7 +94,7 @@ def last_of(folder: Path) -> Schedule:
             "no schedule by the terms of study.toml has been found",
             try_this=command("schedule", folder),
         )
-    older.of_schedule(found.digest)
+    older.watch_schedule(found.digest)
     return found
 
 
@@ -102,7 +102,7 @@ def _set_aside(found: Schedule) -> None:
     """Puts exports, reports and pictures of the schedule before out of the way, and says so."""
     folder = results(found.shells.study)
     moved, changed = older.set_schedules_aside(folder, found.digest)
-    older.of_schedule(found.digest)
+    older.watch_schedule(found.digest)
     if moved:
         say(
             f"{folder / older.OLDER} has what was written of the schedule before: {', '.join(moved)}"
@@ -250,7 +250,7 @@ def _print_years(found: Schedule, years: pd.DataFrame) -> None:
 
     study = found.shells.study
     metals, has_width = study.manifest["metals"], "narrow_share" in years
-    processes = study.priced.names
+    processes = study.priced.process_names
     rock = printed_scale(years["rock_t"], study.model.units.weight)
     money = printed_scale(years[["cash_flow", "npv"]], study.currency)
     names = (

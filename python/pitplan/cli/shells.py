@@ -14,7 +14,7 @@ from ..base import events
 from ..base.errors import PlanError
 from ..base.next_command import command
 from ..base.units_shown import counted, grade_places, printed_scale, share_text
-from .build import print_kinds, tell_strange
+from .tables import print_kinds, tell_strange
 from .console import (
     STUDY,
     app,

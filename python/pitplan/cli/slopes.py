@@ -73,13 +73,13 @@ def print_regions(slopes: Slopes, model: Model) -> None:
 
 def print_patterns(slopes: Slopes, grid: Grid, unit: str) -> None:
     """A line for each region, lengths in a unit, and where the angles can't be held a warning that says what can."""
-    from ..study.looks import not_held
+    from ..study.looks import of_walls
 
-    for name, pattern in slopes.patterns(grid).items():
-        for line in slopes.lines(name, grid, unit):
-            say(line)
-        if not pattern.is_held:
-            warn(not_held(name, pattern, slopes.levels), "  ")
+    lines, loose = of_walls(slopes, grid, unit)
+    for line in lines:
+        say(line)
+    for what in loose:
+        warn(what, "  ")
 
 
 def _print_angles(table: pd.DataFrame, every: int) -> None:

@@ -11,7 +11,7 @@ import typer
 from ..base.errors import PlanError
 from ..base.next_command import command
 from ..base.units_shown import counted, printed_scale
-from .build import print_rock_of_classes
+from .tables import print_rock_of_classes
 from .console import app, described, err, open_study, print_columns, results, say, warn
 
 if TYPE_CHECKING:

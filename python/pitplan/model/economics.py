@@ -134,6 +134,10 @@ class Process:
             )
 
 
+# keys of one mill, and what a process calls them
+_OF_PROCESS = {"processing": "cost", "mill": "rocks"}
+
+
 @dataclass(frozen=True)
 class _Treatment:
     """A way to treat blocks as it is worked out: a process, or the one mill of a study without any.
@@ -166,7 +170,7 @@ class _Treatment:
         """Where one of its keys stands in study.toml, as the mill calls it."""
         if not self.said:
             return ("economics", name)
-        return ("economics", PROCESSES, self.name, {"processing": "cost", "mill": "rocks"}[name])
+        return ("economics", PROCESSES, self.name, _OF_PROCESS[name])
 
     def what(self, name: str) -> str:
         """How an error begins that concerns such a key."""
@@ -536,7 +540,7 @@ class Economics:
 
 def _twice(name: str) -> PlanError:
     """The error of a key of one mill beside processes."""
-    own = {"processing": "cost", "mill": "rocks"}[name]
+    own = _OF_PROCESS[name]
     return PlanError(
         f"[economics] has {name}, which is of one mill, and processes: each of these has its own {own}",
         try_this=f"take {name} out, or the processes",

@@ -1,4 +1,4 @@
-"""Grade and tonnage of each rock, before any pit, and of each resource class."""
+"""Grade and tonnage by rock, resource class and process."""
 from __future__ import annotations
 
 from collections.abc import Mapping, Sequence
@@ -139,8 +139,8 @@ class _Treated:
     def row(self, here: Any, metals: Mapping[str, Mapping[str, str]]) -> dict[str, Any]:
         """The line of some blocks, which `here` says: their tonnes, and of their ore the grades and
         the metal."""
-        milled = here & (self.ore > 0)
-        weight = float(self.ore[milled].sum())
+        treated = here & (self.ore > 0)
+        weight = float(self.ore[treated].sum())
         row: dict[str, Any] = {
             "blocks": int(np.count_nonzero(here)),
             "Mt": float(self.tonnes[here].sum()) / 1e6,
@@ -148,11 +148,11 @@ class _Treated:
         }
         for name, units in metals.items():
             row[f"{name} {units['grade_unit']}"] = (
-                float((self.grade[name][milled] * self.ore[milled]).sum()) / weight
+                float((self.grade[name][treated] * self.ore[treated]).sum()) / weight
                 if weight
                 else float("nan")
             )
-            row[f"{name} {units['price_unit']}"] = float(self.metal[name][milled].sum())
+            row[f"{name} {units['price_unit']}"] = float(self.metal[name][treated].sum())
         return row
 
 

@@ -1,5 +1,5 @@
-"""The one place that runs `pit`: what comes out is an `Accepted` or a `Stated`, or an error in the
-planner's terms."""
+"""What each run of `pit` gives, which `process` starts: an `Accepted` or a `Stated`, or an error in
+the planner's terms. Only `audit/recheck.py` runs it apart."""
 from __future__ import annotations
 
 import gzip

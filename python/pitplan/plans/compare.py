@@ -355,7 +355,7 @@ def by_bench(study: Study, held: Bools, optimum: Bools, factor: int) -> pd.DataF
             **{
                 f"{what}_process_{name}_ore_t": summed(mask & goes[name], ore)
                 for goes in [priced.goes(factor)]
-                for name in priced.names
+                for name in priced.process_names
                 for what, mask in (("left", left), ("over", over))
             },
         }

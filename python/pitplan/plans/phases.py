@@ -233,7 +233,7 @@ class Phases:
             row |= {
                 name: part[name].sum() for name in ("narrow_blocks", "narrow_t") if name in part
             }
-            processes = [f"process_{name}_" for name in self.shells.study.priced.names]
+            processes = [f"process_{name}_" for name in self.shells.study.priced.process_names]
             row |= _of_kinds(part, processes, _TREATED, names)
             kinds = [f"class_{name}_" for name in (classes.names if classes else ())]
             rows.append(row | _of_kinds(part, kinds, _CLASSED, names))

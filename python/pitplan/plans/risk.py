@@ -660,7 +660,7 @@ class _Treated:
     def add(self, one: Realisation, mask: Bools, factor: int) -> None:
         """Counts a realisation in; it sends each block where that is worth most by its own grades."""
         priced, tonnes = one.priced, one.model.blocks.tonnes.to_numpy(float)
-        if not priced.names:
+        if not priced.process_names:
             return
         ore = priced.ore_of(tonnes, factor)
         for way, goes in priced.by_way(factor):

@@ -251,7 +251,7 @@ def _make(
     if change.is_factor:
         price_factor(factor, change)
     elif change.keeps_pit:
-        rates = rates.of(study.priced.names)
+        rates = rates.of(study.priced.process_names)
         _other_rates(rates.over(1.0, [1.0] * len(rates.named)), change)
     else:
         e, s = changed(economics, slopes, change, study.model)
@@ -503,7 +503,7 @@ def table(study: Study, rates: Rates = Rates()) -> pd.DataFrame:
             "no what-ifs were asked for over the model that stands there",
             try_this=command("vary", study.named, "price=-20..20"),
         )
-    rates = rates.of(study.priced.names)
+    rates = rates.of(study.priced.process_names)
     pits: dict[Task, _OnePit] = {}
     rows = []
     for change in (None, *asked.each()):

@@ -18,8 +18,8 @@ _BYTE = 256
 
 
 def first_by_cones(above: Pairs, order: Ints, uses: Ints, capacities: Ints) -> Ints:
-    """The first period by which the capacities so far have room for each unit's cone; that behind all
-    where none has.
+    """The first period by which the capacities so far have room for each unit's cone; the number of
+    periods where none has.
 
     Parameters
     ----------

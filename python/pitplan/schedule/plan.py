@@ -266,7 +266,7 @@ def _sent_of(study: Study, production: Production, plan: Timetable) -> Bools:
     """Whether each block of the model goes to the mill where it is dug, of shape
     (blocks of the model,)."""
     if not production.terms.is_by_year:
-        return study.priced.milled(THOUSAND)
+        return study.priced.treated(THOUSAND)
     found = np.zeros(production.size, bool)
     found[production.blocks_sent(plan)] = True
     return found
@@ -292,7 +292,7 @@ def production_for(
     at = shells.factors.index(THOUSAND)
     held = shells.holds(at)
     tonnes = study.model.blocks.tonnes.to_numpy(float)
-    if names := study.priced.names:
+    if names := study.priced.process_names:
         told = values.get("process_rates") or rates.get("process_rates") or {}
         of = Rates(processes=dict(told)).of(names)  # by name, in the order of the processes
         values = {**values, "process_rates": dict(of.processes)}

@@ -182,7 +182,8 @@ class Production:
         return found
 
     def period_sent(self, plan: Timetable) -> Ints:
-        """The period in which each block that may be sent is; that behind all where it isn't."""
+        """The period in which each block that may be sent is; the number of periods where it
+        isn't."""
         found: Ints = np.where(plan.sent, plan.period[self.millable.unit], self.periods)
         return found
 
@@ -204,7 +205,7 @@ class Production:
         Parameters
         ----------
         period : int array of shape (units,)
-            When each is dug, from 0; that behind all where it stays.
+            When each is dug, from 0; the number of periods where it stays.
         """
         above, sunk = np.full(self.units, -1), np.full(self.units, -1)
         np.maximum.at(above, self.above.blocks, period[self.above.other])
@@ -335,7 +336,7 @@ def _millable_of(study: Study, blocks: Ints, unit: Ints, feeds: Ints) -> Millabl
     """The blocks of a pit that may go to the mill or to waste; `unit` is that of each of `blocks`,
     and `feeds` has the feed of each block of the model, in thousandths of a tonne."""
     priced = study.priced
-    is_so = priced.milled(THOUSAND)[blocks]
+    is_so = priced.treated(THOUSAND)[blocks]
     found = blocks[is_so]
     gains = (priced.gains(THOUSAND) // THOUSAND)[found] * int(priced.rounding)
     return Millable(found, unit[is_so], gains, feeds[found])

@@ -72,7 +72,7 @@ class Timetable(NamedTuple):
     Attributes
     ----------
     period : int array of shape (units,)
-        From 0; that behind all where a unit stays.
+        From 0; the number of periods where a unit stays.
     sent : bool array of shape (millable blocks,)
         Whether a block goes to the mill where it is dug.
     """

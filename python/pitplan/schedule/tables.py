@@ -58,12 +58,14 @@ class Tables:
             "ore_t": ore,
             "waste_t": tonnes - ore,
             "feed_t": sum(feeds[1:], feeds[0]),
-            "cash_flow": priced.worth(THOUSAND) - gain * (priced.milled(THOUSAND) & ~sent),
+            "cash_flow": priced.worth(THOUSAND) - gain * (priced.treated(THOUSAND) & ~sent),
         }
         for name, metal in priced.metal_of(THOUSAND).items():
             found[f"grade_{name}"] = priced.grade[name] * ore
             found[f"metal_{name}"] = metal * sent
-        for (way, here), feed in zip(priced.by_way(THOUSAND) if priced.names else (), feeds):
+        for (way, here), feed in zip(
+            priced.by_way(THOUSAND) if priced.process_names else (), feeds
+        ):
             before = f"process_{way.name}_"
             found |= {f"{before}ore_t": ore * here, f"{before}feed_t": feed}
             for name, metal in way.metal.items():
@@ -78,7 +80,7 @@ class Tables:
         ore = row["ore_t"]
         strip = {"strip": row["waste_t"] / ore if ore else np.nan}
         priced = self.schedule.shells.study.priced
-        for before in ("", *(f"process_{name}_" for name in priced.names)):
+        for before in ("", *(f"process_{name}_" for name in priced.process_names)):
             of_kind = row[f"{before}ore_t"]
             for name in priced.grade:
                 graded = row[f"{before}grade_{name}"]
@@ -125,7 +127,7 @@ class Tables:
         """What share of each capacity a period uses, which of them binds, and where the sink rate
         does."""
         terms, amounts = self.schedule.production.terms, self.amounts
-        names = self.schedule.shells.study.priced.names
+        names = self.schedule.shells.study.priced.process_names
         columns = ["rock_t", *([f"process_{name}_feed_t" for name in names] or ["feed_t"])]
         shares = {}
         for name, room, column in zip(terms.resources, terms.capacities, columns):
@@ -159,7 +161,8 @@ class Tables:
 
     @cached_property
     def unit_period(self) -> Ints:
-        """The period of each unit, that behind all where it stays; gates come as early as they may."""
+        """The period of each unit, the number of periods where it stays; gates come as early as
+        they may."""
         made = self.schedule.production
         of_blocks = self.schedule.period[made.blocks].astype(np.int64)
         found = np.zeros(made.units, np.int64)

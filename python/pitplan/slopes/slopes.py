@@ -29,7 +29,6 @@ from .offsets import Angles, Offset, Outline, Pattern
 from .ramps import ramp_of
 
 DEFAULT = "default"
-_REGION = 4  # the column of a block's region, after what it brings, costs and weighs
 _MOST_REGIONS = 64  # that `pit` takes
 _OF_PLACES = ("elevation", "below_ground")  # what a formula of regions may name beside columns
 _OFF = 1e-3  # of a block's height: that much less or more makes no other elevation, nor depth
@@ -188,7 +187,7 @@ class Slopes:
         """The offsets (dx, dy, dz) of each region, "default" first."""
         return {name: list(pattern.offsets) for name, pattern in self.patterns(grid).items()}
 
-    def settings(self, grid: Grid, column: int = _REGION) -> str:
+    def settings(self, grid: Grid, column: int) -> str:
         """The settings that list the offsets of each region, as `pit` reads them beside a `.blocks`
         file, which has regions in that column, where there are several. Raises PlanError as
         `patterns`."""
@@ -197,7 +196,7 @@ class Slopes:
     def outlines(self, grid: Grid) -> dict[str, Outline]:
         """The walls that each region's offsets make, "default" first; the offsets are read back
         from the text of `settings`. Raises PlanError as `patterns`."""
-        listed = offsets_listed(self.settings(grid))
+        listed = offsets_listed(self.settings(grid, column=0))  # no offset hangs on it
         return {
             name: Outline(pattern.wall, found)
             for (name, pattern), found in zip(self.patterns(grid).items(), listed)

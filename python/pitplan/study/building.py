@@ -28,7 +28,7 @@ from .folder import READ
 from .pairs import counted_pairs
 
 _WAY = ("revenue", "processing")  # the columns of each way to treat a block
-_AFTER = ("mining", "tonnes")  # those behind them
+_AFTER = ("mining", "tonnes")  # those after them
 ROWS = 1 << 16  # that are text at a time
 
 

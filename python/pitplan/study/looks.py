@@ -525,10 +525,10 @@ def of_walls(slopes: Slopes, grid: Grid, unit: str) -> tuple[list[str], list[str
     patterns = slopes.patterns(grid).items()
     lines = [line for name, _ in patterns for line in slopes.lines(name, grid, unit)]
     loose = [(name, pattern) for name, pattern in patterns if not pattern.is_held]
-    return lines, [not_held(name, pattern, slopes.levels) for name, pattern in loose]
+    return lines, [_not_held(name, pattern, slopes.levels) for name, pattern in loose]
 
 
-def not_held(name: str, pattern: Pattern, levels: int | None) -> str:
+def _not_held(name: str, pattern: Pattern, levels: int | None) -> str:
     """What is said where offsets don't hold the slopes of a region: what was asked for, what is
     built, what to try."""
     outline = Outline(pattern.wall, pattern.offsets)

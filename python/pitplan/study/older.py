@@ -53,7 +53,7 @@ class _Note(NamedTuple):
         return self.size, self.when
 
 
-def of_schedule(digest: str) -> None:
+def watch_schedule(digest: str) -> None:
     """From now on until `note` what is written shows the schedule with this digest."""
     _shown[:] = [digest]
 

@@ -168,7 +168,7 @@ class Cells:
             if kinds
             else {},
             {way.name: cls.of(shells, base, here, shell) for way, here in p.by_way(base)}
-            if only is None and p.names
+            if only is None and p.process_names
             else {},
             [way.feed for way in p.ways],
         )
@@ -267,7 +267,7 @@ def table(shells: Shells, base: int, rates: Rates) -> pd.DataFrame:
         table has resource classes, those of `Cells.by_class`.
     """
     p, c = shells.study.priced, Cells.of(shells, base)
-    rates = rates.of(p.names).over(float(c.rock.sum()), c.fed(()))
+    rates = rates.of(p.process_names).over(float(c.rock.sum()), c.fed(()))
     rows, worths = [], _worths_of(shells, base)
     for i, factor in enumerate(shells.factors):
         rock, ore = float(c.rock[: i + 1].sum()), float(c.ore[: i + 1].sum())

@@ -65,7 +65,7 @@ def of_tonnes(model: Model) -> list[Strange]:
 def _of_worths(priced: Priced, economics: Economics) -> list[Strange]:
     """Where no ore pays, where it pays far too well, and where a metal brings next to nothing."""
     units, key = "price, price_unit, grade_unit and recovery in [economics]", ("economics", METALS)
-    ore = priced.milled(THOUSAND)
+    ore = priced.treated(THOUSAND)
     if not ore.any():
         return [
             Strange(

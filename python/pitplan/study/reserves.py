@@ -39,7 +39,7 @@ def reserves(study: Study, parts: Mapping[str, Array], base: int = THOUSAND) -> 
     """
     model, priced = study.model, study.priced
     held: Bools = model.is_rock & np.logical_and.reduce([part != 0 for part in parts.values()])
-    tonnes, milled = model.blocks["tonnes"].to_numpy(float), priced.milled(base)
+    tonnes, treated = model.blocks["tonnes"].to_numpy(float), priced.treated(base)
     feed = np.array([0.0, *(way.feed for way in priced.ways)])[priced.way_of(base)]
     graded = tonnes if priced.part is None else tonnes * priced.part
     keys: dict[str, Array] = {
@@ -53,7 +53,7 @@ def reserves(study: Study, parts: Mapping[str, Array], base: int = THOUSAND) -> 
     keys["to"] = priced.destinations(base)
     amounts = {
         "blocks": np.ones(len(model), np.int64),
-        "rock_t": np.where(milled, graded, tonnes),
+        "rock_t": np.where(treated, graded, tonnes),
         "feed_t": graded * feed,
         "worth": priced.worth(base),
     }

@@ -247,7 +247,7 @@ def by_kinds(study: Study, sets: Mapping[str, Bools], factor: int = THOUSAND) ->
     resource class, where the table has some. Ore is what is treated at a factor (in
     thousandths)."""
     found = []
-    if study.priced.names:
+    if study.priced.process_names:
         found.append(
             _by_kind(study, sets, factor, ("By process", "Of, to", study.priced.goes(factor)))
         )

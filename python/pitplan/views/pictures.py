@@ -114,7 +114,7 @@ def paint(shells: Shells, colour: str) -> Paint:
             np.where(priced.forbidden, np.nan, priced.worth(THOUSAND)),
             f"Worth of a block at factor 1 ({shells.study.currency})",
         )
-    blocks, names = shells.study.model.blocks, shells.study.priced.names
+    blocks, names = shells.study.model.blocks, shells.study.priced.process_names
     if colour == "to" and names and colour not in blocks.columns:
         goes = pd.Series(shells.study.priced.destinations(THOUSAND))
         return paint_words(goes, "Where a block goes at factor 1")

@@ -264,7 +264,7 @@ def test_a_penalty_element(frame):
     assert by_concentrate.processing.tolist() == [133429, 90000, 92250]
     for priced in (by_kilogram, by_concentrate):
         assert priced.revenue.tolist() == [722500, 2023000, 0]
-        assert priced.milled(1000).tolist() == [True, True, False]
+        assert priced.treated(1000).tolist() == [True, True, False]
         assert (priced.thousandths(500) + priced.mining * 1000).tolist() == [
             361250000 - priced.processing[0] * 1000,
             1011500000 - priced.processing[1] * 1000,

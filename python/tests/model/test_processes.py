@@ -52,7 +52,7 @@ def test_a_block_goes_where_it_is_worth_most_and_is_never_worth_less_than_waste(
             worths.append(best - 1000 * mining[b])
         assert found.way_of(factor).tolist() == goes
         assert found.thousandths(factor).tolist() == worths
-        assert found.milled(factor).tolist() == [way > 0 for way in goes]
+        assert found.treated(factor).tolist() == [way > 0 for way in goes]
         named = ["waste", *(f"w{i}" for i in range(1, 9))]
         assert found.destinations(factor).tolist() == [named[way] for way in goes]
         gains = [worth + 1000 * digging for worth, digging in zip(worths, mining)]
@@ -144,7 +144,7 @@ def test_one_process_means_what_a_mill_means(tmp_path, rocks):
         study = study_of(tmp_path / name, table(6, 5, 3, 2), economics=economics)
         read = [(study.where / file).read_bytes() for file in ("mine.blocks", "settings.toml")]
         texts.append((read, study.priced.feed, study.priced.metal["copper"].tolist()))
-        assert study.priced.names == []
+        assert study.priced.process_names == []
     assert texts[0] == texts[1]
 
 

@@ -86,7 +86,7 @@ def test_a_design_that_keeps_the_slopes(study, factor):
         ):
             part = b.TONNES[mask & here]
             assert tonnes == pytest.approx(part.sum())
-            assert ore == pytest.approx(part[study.priced.milled(1000)[part.index]].sum())
+            assert ore == pytest.approx(part[study.priced.treated(1000)[part.index]].sum())
             assert worth == pytest.approx(wanted(study, mask & here))
         assert row.design_t == pytest.approx(b.TONNES[held & here].sum())
         assert row.best_t == pytest.approx(b.TONNES[best & here].sum())

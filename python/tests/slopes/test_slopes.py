@@ -46,7 +46,7 @@ def written(folder, slopes, model):
             "%d %d %d %d 0 0 0 0 %d\n" % (b, *place, region)
             for b, (place, region) in enumerate(zip(places, slopes.region_of(model)))
         )
-    (folder / "m.toml").write_text(slopes.settings(model.grid))
+    (folder / "m.toml").write_text(slopes.settings(model.grid, 4))
     Pit().slopes(Files(folder / "m.blocks", folder / "m.toml"), folder / "m.prec")
     lines = [list(map(int, line.split())) for line in (folder / "m.prec").read_text().splitlines()]
     assert [line[0] for line in lines] == list(range(len(model)))
@@ -163,20 +163,20 @@ def test_what_settings_list_is_what_was_searched():
     """The text, read back by a reader of TOML; and by what walls are told and drawn from."""
     grid = pp.Grid((0, 0, 0), (20, 20, 15), (1, 1, 1), 30.0)
     slopes = pp.Slopes(45, by="S", regions={"N ] # 1\a\n": [(0, 38), (180, 46)]})
-    text = slopes.settings(grid)
+    text = slopes.settings(grid, 4)
     told = tomllib.loads(text)
     found = list(slopes.offsets_by_region(grid).values())
     assert [[tuple(offset) for offset in each] for each in told["slopes"]] == found
     assert {key: told[key] for key in told if key != "slopes"} == {"region": 4, "up": "plus"}
     assert listed.offsets_listed(text) == found
-    assert "region" not in tomllib.loads(pp.Slopes(45).settings(grid))
+    assert "region" not in tomllib.loads(pp.Slopes(45).settings(grid, 4))
 
 
 def test_walls_are_told_and_drawn_of_what_settings_list(monkeypatch):
     """The text is the one thing that `pit` reads: where it lists other offsets, other walls are shown."""
     grid, slopes = pp.Grid((0, 0, 0), (10, 10, 10), (1, 1, 1), 0.0), pp.Slopes(45)
     five = "slopes = [[[0, 0, 1], [1, 0, 1], [-1, 0, 1], [0, 1, 1], [0, -1, 1]]]\n"
-    monkeypatch.setattr(pp.Slopes, "settings", lambda self, grid: five)
+    monkeypatch.setattr(pp.Slopes, "settings", lambda self, grid, column: five)
     found = slopes.built(grid).set_index("bearing").built
     assert found[0] == pytest.approx(45)  # a block out on each level: the corner of a square
     assert found[45] == pytest.approx(math.degrees(math.atan(math.sqrt(2))))

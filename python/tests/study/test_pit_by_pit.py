@@ -45,7 +45,7 @@ def test_discounting_by_hand(two_metals):
         shell=shells.shell,
         level=shells.study.model.blocks.iz,
         worth=shells.study.priced.worth(1000),
-        ore=shells.study.priced.milled(1000),
+        ore=shells.study.priced.treated(1000),
     )
     found = shells.table(mining_rate=1e5, mill_rate=5e4, discount=0.1).iloc[2]
     for order, said in ((["shell", "level"], found.npv_best), ("level", found.npv_worst)):

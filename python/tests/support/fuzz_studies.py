@@ -256,7 +256,7 @@ def answer(folder, text, table, is_searched=True):
         plan.economics.priced(model)
         plan.slopes.region_of(model)
         if is_searched:
-            plan.slopes.settings(model.grid)
+            plan.slopes.settings(model.grid, column=4)
     except PlanError as error:
         if not all(MESSAGE.fullmatch(str(each)) for each in error.each()):
             raise AssertionError(f"a message of another form: {str(error)!r}") from error

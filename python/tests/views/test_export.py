@@ -247,7 +247,7 @@ def test_csv_of_blocks(tmp_path, turned):
     assert np.allclose(found[["x", "y", "z"]], f[["XC", "YC", "ZC"]])
     assert np.array_equal(found.CU, f.CU)
     assert (found["shell"].notna() == (shells.shell < 4)).all()
-    assert (found["to"] == "mill").sum() == shells.study.priced.milled(1000).sum()
+    assert (found["to"] == "mill").sum() == shells.study.priced.treated(1000).sum()
     assert (
         found.worth[shells.holds(2)].sum()
         == float(shells.study.mask(1000).dot(shells.study.priced.worth(1000)))

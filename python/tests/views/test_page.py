@@ -247,7 +247,7 @@ def test_facts_of_a_pushback_are_its_own(phases_view, phases):
 
 def test_facts_of_a_design_and_of_the_best_pit(design_view, shells, compared):
     study, b = shells.study, shells.study.model.blocks
-    milled = study.priced.milled(1000)
+    milled = study.priced.treated(1000)
     rows = {row[0]: row[1:] for row in rows_of(design_view)}
     assert list(rows) == ["upright", "best pit"]
     for name, mask, worth in (

@@ -88,7 +88,7 @@ def write(
 
 def _of_processes(shells: Shells) -> list[str]:
     """The fields of ore by process, where there are several."""
-    return [f"process_{name}_ore_t" for name in shells.priced.names]
+    return [f"process_{name}_ore_t" for name in shells.priced.process_names]
 
 
 def system_of(crs: str | None) -> Any:
@@ -135,7 +135,7 @@ def features(
     ore, goes = summed(ore_in_place), priced.goes(THOUSAND)
     by_process = {
         field: summed(ore_in_place * goes[name])
-        for field, name in zip(_of_processes(shells), priced.names)
+        for field, name in zip(_of_processes(shells), priced.process_names)
     }
     benches, rims = [], []
     for i in chosen:

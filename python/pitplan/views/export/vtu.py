@@ -86,7 +86,7 @@ def mesh_of(
         "block": kept.astype(np.int32),
     }
     legend = []
-    if shells.priced.names:
+    if shells.priced.process_names:
         goes = pd.Series(shells.priced.destinations(THOUSAND)[kept])
         data["to"], words = numbered(goes, "to", model.name)
         legend += [("to", i, word) for i, word in enumerate(words)]

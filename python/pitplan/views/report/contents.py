@@ -302,7 +302,7 @@ def of_classes(shells: Shells) -> list[Table]:
 def of_processes(shells: Shells) -> list[Table]:
     """What goes to each process, in place and of each pit; none where there is one."""
     study = shells.study
-    if not study.priced.names:
+    if not study.priced.process_names:
         return []
     metals, sets = study.manifest["metals"], {"in place": np.ones(len(study.model), bool)}
     factors = {factor_text(factor): factor / THOUSAND for factor in shells.factors}
@@ -442,7 +442,7 @@ def of_phase_classes(phases: Phases) -> list[Table]:
 def of_phase_processes(phases: Phases) -> list[Table]:
     """What goes to each process, of each pushback; none where there is one."""
     study = phases.shells.study
-    if not study.priced.names:
+    if not study.priced.process_names:
         return []
     sets = {str(k): phases.pushback == k for k in range(1, len(phases) + 1)}
     lines = by_process(study.model, study.priced, study.manifest["metals"], sets)
