@@ -35,6 +35,8 @@ else:
     import recheck
 
 THOUSAND, MILLION = 1000, 10**6
+HELD = 10**30  # what a node is worth less whose block waits beyond its period, in 10^-15
+MOST_WAITS = 8  # that pit bound reads of a block
 FULL = 0.995  # of a capacity, from which on it is said to bind
 WHEN = {"start": Decimal(0), "mid": Decimal("0.5"), "end": Decimal(1)}
 CUTOFFS = ("fixed", "by year")
@@ -206,6 +208,20 @@ def sinking(mine: Mine, periods: Periods) -> Rows:
         if None not in column and top is not None and mine.is_rock[block] and mine.is_rock[top]:
             found[block].append(top)
     return found
+
+
+def check_waits(periods: Periods, lagged: Rows) -> None:
+    """What schedule/ tells pit of the sink rate: for how many periods blocks wait, and in a column
+    behind the uses for which block each does, its own number where for none."""
+    told, uses = tomllib.loads((HERE / "schedule/periods.toml").read_text()), len(periods.uses)
+    columns = [] if periods.sink is None else [uses]
+    need(told.get("waits", []) == columns, "periods.toml hasn't the column of the sink rate")
+    lag = periods.lag if columns else None
+    need(told.get("lag") == lag, "periods.toml hasn't the lag of the sink rate")
+    for block, words in enumerate(words_of(HERE / "schedule/uses.blocks")):
+        waits = list(map(int, words[4 + uses :]))
+        ours = (lagged[block] or [block]) if columns else []
+        need(waits == ours, f"block {block} waits for {waits}, and by the sink rate for {ours}")
 
 
 def read_schedule(never: int) -> dict[int, int]:
@@ -391,10 +407,13 @@ def least_uses(periods: Periods, units: int) -> Rows:
 
 
 def first_periods(
-    periods: Periods, order: list[int], above: list[set[int]], sunk: list[set[int]]
+    periods: Periods,
+    order: list[int],
+    pairs: tuple[list[set[int]], list[set[int]]],
+    by_room: list[int],
 ) -> list[int]:
     """The first period that the sink rate leaves each unit, and its cone where cones count."""
-    found = cone_periods(periods, order, above) if counts_cones(periods) else [0] * len(above)
+    (above, sunk), found = pairs, list(by_room)
     for unit in order:
         least = [found[unit], *(found[other] for other in above[unit])]
         least += [found[other] + periods.lag for other in sunk[unit]]
@@ -408,16 +427,21 @@ def check_bound(mine: Mine, periods: Periods, lagged: Rows) -> Decimal:
     sunk = of_units(lagged, periods.unit, False)
     order, count = add_gates(mine, periods, above), len(periods.weights)
     sunk += [set() for _ in above[len(sunk) :]]
-    firsts = first_periods(periods, order, above, sunk)
-    is_free = not any(sunk) and not any(firsts)
-    is_plain = is_free and not any(mine.gains[b] for b in periods.unit if chooses(periods))
+    by_room = cone_periods(periods, order, above) if counts_cones(periods) else [0] * len(above)
+    is_read = not any(by_room) and all(len(others) <= MOST_WAITS for others in sunk)
+    is_plain = is_read and not any(mine.gains[b] for b in periods.unit if chooses(periods))
+    firsts = by_room if is_plain else first_periods(periods, order, (above, sunk), by_room)
     leaves = left_by_units(mine, periods, len(above), THOUSAND if not is_plain else 1)
     node = [(unit, t) for unit, first in enumerate(firsts) for t in range(first, count)]
-    grain = 1
+    grain, held = 1, 0
     if is_plain:  # pit bound has judged it: node t * n + b of n units, and amounts in 10^-15
         node.sort(key=lambda each: each[1])
-        grain = MILLION
-    worths = [(leaves[unit][t] - leaves[unit][t + 1]) * grain for unit, t in node]
+        grain, held = MILLION, HELD
+    worths = [
+        (leaves[unit][t] - leaves[unit][t + 1]) * grain
+        - (held if sunk[unit] and t < periods.lag else 0)
+        for unit, t in node
+    ]
     source = flow_of(node, worths, above, sunk, periods.lag)
     closed = sum(max(worth, 0) for worth in worths) - source
     rooms = 0  # a period pays for its capacities and has its fixed cost, or digs nothing
@@ -831,6 +855,7 @@ def main() -> int:
         mine = read_mine()
         periods = read_periods(mine)
         lagged, when = sinking(mine, periods), read_schedule(len(periods.weights))
+        check_waits(periods, lagged)
         check_pit(periods)
         npv = check_schedule(mine, periods, lagged, when)
         bound = check_bound(mine, periods, lagged)

@@ -43,7 +43,6 @@ def write_schedule(
         return False
     from ..schedule.judged import write_texts  # these need Numba
     from ..schedule.kept import Kept
-    from ..schedule.periods_text import periods_text
     from ..schedule.plan import Schedule
     from ..schedule.tables import Tables
 
@@ -59,8 +58,7 @@ def write_schedule(
     write_table(tables.benches(), work / "tables" / "schedule_benches.csv")
     folder = work / "schedule"
     folder.mkdir()
-    write_texts(folder, study, made, found.period)
-    (folder / "periods.toml").write_text(periods_text(made, np.array(bound.multipliers, np.int64)))
+    write_texts(folder, study, made, found.period, np.array(bound.multipliers, np.int64))
     (folder / "units.txt").write_text(
         "".join(f"{b} {u}\n" for b, u in zip(made.blocks.tolist(), made.unit.tolist()))
     )

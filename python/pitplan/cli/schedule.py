@@ -337,9 +337,6 @@ def _counted_here(found: Schedule) -> Iterator[str]:
             f"{milled:,} of the blocks {'goes' if milled == 1 else 'go'} to the mill, each in the"
             " year in which it is dug; pit schedule counts these twice, as dug and as milled"
         )
-    if terms.sink is not None:
-        benches = f"{terms.sink:,} {'bench' if terms.sink == 1 else 'benches'}"
-        yield f"the sink rate of {benches} a year is counted by pitplan, not by pit"
     if terms.pushbacks:
         yield (
             f"the order of the {len(terms.pushbacks) + 1} pushbacks is counted by pitplan, not by pit"

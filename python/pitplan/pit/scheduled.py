@@ -7,8 +7,8 @@ from dataclasses import dataclass
 from ..base.errors import NotAccepted
 
 _ANSWER = re.compile(
-    r"SCHEDULE (\d+) (-?[\d.]+)\nBROKEN (\d+)\n((?:BREAKS \d+ \d+\n)*)"
-    r"((?:OVER \d+ \d+ [\d.]+ \d+\n)*)"
+    r"SCHEDULE (\d+) (-?[\d.]+)\nBROKEN (\d+)\n(?:BREAKS \d+ \d+\n)*"
+    r"(?:EARLY (\d+)\n(?:WAITS \d+ \d+\n)*)?((?:OVER \d+ \d+ [\d.]+ \d+\n)*)"
 )
 
 
@@ -25,6 +25,9 @@ class Scheduled:
         Its net present value, exactly.
     broken : int
         In how many pairs a block is dug and its predecessor later or never.
+    early : int
+        In how many pairs of a block and one for which it waits, as by a sink rate, it is dug too soon
+        after the other, or the other never.
     over : tuple of (int, int)
         The resources and periods, both from 0, of which it uses more than there is.
     """
@@ -32,12 +35,13 @@ class Scheduled:
     count: int
     npv: str
     broken: int
+    early: int
     over: tuple[tuple[int, int], ...]
 
     @property
     def is_feasible(self) -> bool:
-        """Whether it keeps the slopes and the capacities."""
-        return not self.broken and not self.over
+        """Whether it keeps the slopes, what blocks wait for, and the capacities."""
+        return not self.broken and not self.early and not self.over
 
     @classmethod
     def of_answer(cls, text: str, hint: str | None = None) -> Scheduled:
@@ -50,6 +54,6 @@ class Scheduled:
         found = _ANSWER.fullmatch(text)
         if not found:
             raise NotAccepted(f"pit schedule: {text.strip()}", try_this=hint)
-        count, npv, broken, _, over = found.groups()
+        count, npv, broken, early, over = found.groups()
         named = tuple((int(r), int(t)) for r, t in re.findall(r"OVER (\d+) (\d+)", over))
-        return cls(int(count), npv, int(broken), named)
+        return cls(int(count), npv, int(broken), int(early or 0), named)

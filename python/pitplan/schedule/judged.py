@@ -21,6 +21,7 @@ from .periods_text import periods_text
 from .production import Production, feeds_of
 from .sending import Timetable
 from .terms import GRAIN, MILLION
+from .units import waits_of
 
 if TYPE_CHECKING:
     from ..study.study import Study
@@ -28,7 +29,13 @@ if TYPE_CHECKING:
 TEXTS = ("uses.blocks", "periods.toml", "schedule.txt")
 
 
-def write_texts(folder: Path, study: Study, production: Production, of_blocks: Indices) -> None:
+def write_texts(
+    folder: Path,
+    study: Study,
+    production: Production,
+    of_blocks: Indices,
+    multipliers: Ints | None = None,
+) -> None:
     """Writes what `pit schedule` reads beside the files of the model.
 
     Parameters
@@ -37,8 +44,10 @@ def write_texts(folder: Path, study: Study, production: Production, of_blocks: I
     production : Production
     of_blocks : int array of shape (blocks of the model,)
         The period of each block, -1 where it isn't dug.
+    multipliers : int array of shape (resources, periods), optional
+        The prices of a bound.
     """
-    b = study.model.blocks
+    b, waits = study.model.blocks, block_waits(study, production)
     own = block_uses(study, production.blocks)
     uses = np.zeros((len(own), production.size), np.int64)
     uses[:, production.blocks] = own
@@ -48,11 +57,12 @@ def write_texts(folder: Path, study: Study, production: Production, of_blocks: I
         "y": b.iy,
         "z": b.iz,
         **{f"uses {number}": each for number, each in enumerate(uses)},
+        **{"waits": each for each in waits},
     }
     with whole_file(folder / TEXTS[0]) as part:
         write_numbers(part, {name: np.asarray(each) for name, each in table.items()})
     with whole_file(folder / TEXTS[1]) as part:
-        part.write_text(periods_text(production))
+        part.write_text(periods_text(production, multipliers, len(waits)))
     with whole_file(folder / TEXTS[2]) as part:
         dug = np.flatnonzero(of_blocks >= 0)
         write_numbers(part, {"b": dug, "t": of_blocks[dug]})
@@ -63,6 +73,16 @@ def block_uses(study: Study, blocks: Ints) -> Ints:
     of shape (resources, blocks)."""
     found = study.model.blocks.tonnes.to_numpy(float), *feeds_of(study)
     return np.stack([np.rint(each[blocks] * GRAIN).astype(np.int64) for each in found])
+
+
+def block_waits(study: Study, production: Production) -> list[Ints]:
+    """The block of the model for which each waits by the sink rate, its own number where for none: a
+    column, and none without a sink rate."""
+    if production.terms.sink is None:
+        return []
+    found = np.arange(production.size)
+    found[production.blocks] = waits_of(study, production.terms.sink, production.blocks)
+    return [found]
 
 
 def judged(study: Study, production: Production, plan: Timetable, folder: Path) -> Scheduled:
@@ -88,7 +108,7 @@ def judged(study: Study, production: Production, plan: Timetable, folder: Path) 
     if not said.is_feasible or said.count != count or Decimal(said.npv) != npv:
         raise Disagreement(
             f"pit schedule says {counted(said.count, 'block')}, {said.npv},"
-            f" {counted(said.broken, 'broken pair')} and"
+            f" {counted(said.broken, 'broken pair')}, {counted(said.early, 'early pair')} and"
             f" {counted(len(said.over), 'overused period')}; this package counts {count:,} and"
             f" {npv:f}",
             try_this="keep the folder, and tell the maintainers",
@@ -121,7 +141,14 @@ def _write_by_year(
     rock[production.blocks] = block_uses(study, production.blocks)[0]
     feed = np.append(np.zeros(count, np.int64), millable.feeds)
     numbers = np.arange(len(each))
-    table = [numbers, *(b[name].to_numpy()[each] for name in ("ix", "iy", "iz")), rock, feed]
+    waits = [np.append(column, numbers[count:]) for column in block_waits(study, production)]
+    table = [
+        numbers,
+        *(b[name].to_numpy()[each] for name in ("ix", "iy", "iz")),
+        rock,
+        feed,
+        *waits,
+    ]
     dug = np.append(np.flatnonzero(of_blocks >= 0), count + np.searchsorted(own, sent))
     texts = Texts(folder / "mine.prec", folder / "mine.upit")
     study.program.slopes(study.files, texts.prec)
@@ -131,7 +158,7 @@ def _write_by_year(
         file.write(f"NAME: ways\nTYPE: UPIT\nNBLOCKS: {len(each)}\nOBJECTIVE_FUNCTION:\n")
         file.writelines(f"{at} {worth}\n" for at, worth in enumerate(worths.tolist()))
         file.write("EOF\n")
-    write_numbers(folder / TEXTS[0], dict(zip("bxyzrf", table)))
-    (folder / TEXTS[1]).write_text(periods_text(production))
+    write_numbers(folder / TEXTS[0], dict(zip("bxyzrfw", table)))
+    (folder / TEXTS[1]).write_text(periods_text(production, None, len(waits)))
     write_numbers(folder / TEXTS[2], {"b": dug, "t": of_blocks[each[dug]]})
     return texts

@@ -35,6 +35,19 @@ class Pairs(NamedTuple):
         found: Ints = np.repeat(np.arange(len(self.first) - 1), np.diff(self.first))
         return found
 
+    @property
+    def most(self) -> int:
+        """Those of the unit that rests on most."""
+        return int(np.diff(self.first).max(initial=0))
+
+    def columns(self) -> Ints:
+        """The pairs as columns, of shape (most, units): what a unit rests on stands in the first, and
+        its own number in the others."""
+        units = np.arange(len(self.first) - 1)
+        found = np.repeat(units[None, :], self.most, axis=0)
+        found[np.arange(len(self.other)) - self.first[self.blocks], self.blocks] = self.other
+        return found
+
     def turned(self) -> Pairs:
         """The pairs the other way round: those that rest on each unit."""
         return Pairs.of(self.other, self.blocks, len(self.first) - 1)

@@ -29,8 +29,9 @@ if TYPE_CHECKING:
     from ..study.shells import Shells
     from ..study.study import Study
 
-_FORM = 4  # of what is kept: another one is found anew
+_FORM = 5  # of what is kept: another one is found anew
 _MOST_NODES = 1 << 24  # units by periods that `pit` reads
+_MOST_WAITS = 8  # columns in which `pit` reads what a unit waits for
 
 
 @dataclass(frozen=True)
@@ -83,10 +84,10 @@ class Production:
 
     @property
     def is_plain(self) -> bool:
-        """Whether `pit bound` can bound it: its periods have no lags and no choice of ways, and every
-        unit may be dug in the first."""
-        is_free = not len(self.sinking.other) and not self.earliest.any()
-        return is_free and not len(self.millable.block)
+        """Whether `pit bound` can bound it: no block may go one of two ways, no unit waits for more
+        others than `pit` reads, and none comes later by its cone."""
+        is_read = not len(self.millable.block) and self.sinking.most <= _MOST_WAITS
+        return is_read and not self.first_by_room.any()
 
     @property
     def counts_cones(self) -> bool:
@@ -131,12 +132,17 @@ class Production:
         return digest.hexdigest()
 
     @cached_property
+    def first_by_room(self) -> Ints:
+        """The first period that cones, where they count, leave each unit, of shape (units,)."""
+        if not self.counts_cones:
+            return np.zeros(self.units, np.int64)
+        return first_by_cones(self.above, self.order, self.uses, self.capacities)
+
+    @cached_property
     def earliest(self) -> Ints:
         """The first period that the sink rate and cones, where they count, leave each unit, of shape
         (units,)."""
-        found, lag = np.zeros(self.units, np.int64), self.terms.per_year
-        if self.counts_cones:
-            found = first_by_cones(self.above, self.order, self.uses, self.capacities)
+        found, lag = self.first_by_room.copy(), self.terms.per_year
         if not len(self.sinking.other):
             return found
         for here in np.split(self.order, self.steps):

@@ -250,7 +250,7 @@ def judged(study: Realisation, made: Production, period: Indices) -> Decimal:
     if not said.is_feasible or Decimal(said.npv) != npv:
         raise Disagreement(
             f"realisation {study.number}: pit schedule says {said.npv},"
-            f" {counted(said.broken, 'broken pair')} and"
+            f" {counted(said.broken, 'broken pair')}, {counted(said.early, 'early pair')} and"
             f" {counted(len(said.over), 'overused period')}; this package counts {npv:f}"
         )
     return npv - fixed

@@ -20,7 +20,7 @@ _ROWS = 50_000  # units whose lines are made at a time
 
 
 class UnitTexts:
-    """The bounds of a production whose periods have no lags and no choice of ways.
+    """The bounds of a production whose schedules choose no way for a block, by a fixed cut-off.
 
     Parameters
     ----------
@@ -49,7 +49,7 @@ class UnitTexts:
         )
         if not mine.texts.prec.exists():
             self.write(mine)
-        mine.periods.write_text(periods_text(made, multipliers))
+        mine.periods.write_text(periods_text(made, multipliers, made.sinking.most))
         pit = program.bound(mine, folder / CERTIFICATE, seconds)
         if pit is None:
             return None
@@ -58,7 +58,7 @@ class UnitTexts:
         return Closed(pit.worth, dug.reshape(made.periods, made.units).T, pit.certificate)
 
     def write(self, mine: Periodic) -> None:
-        """What each unit rests on, is worth and uses."""
+        """What each unit rests on, is worth and uses, and which others it waits a year for."""
         made, units = self.production, np.arange(self.production.units)
         first, other = made.above
         with open(mine.texts.prec, "w") as file:
@@ -75,5 +75,5 @@ class UnitTexts:
             file.writelines(f"{unit} {value}\n" for unit, value in enumerate(made.values.tolist()))
             file.write("EOF\n")
         none = np.zeros_like(units)
-        rows = (units, none, none, units, *made.uses)
+        rows = (units, none, none, units, *made.uses, *made.sinking.columns())
         write_numbers(mine.uses, {f"{i}": each for i, each in enumerate(rows)})

@@ -132,6 +132,19 @@ def pairs_of(study: Study, sink: int | None, blocks: Ints) -> tuple[Pairs, Pairs
     return above, Pairs.of(lower, at[lower], len(blocks))
 
 
+def waits_of(study: Study, sink: int, blocks: Ints) -> Ints:
+    """Of each of some blocks the one for which it waits by the sink rate: so many benches straight
+    above it, of rock as it is, with a block at each bench between. Its own number where there is
+    none. By places alone: `pairs_of` goes by the slopes."""
+    index, is_rock, b = study.model.index, study.model.is_rock, study.model.blocks
+    x, y, z = (b[name].to_numpy()[blocks] for name in ("ix", "iy", "iz"))
+    top, found, waits = index.shape[2] - 1, blocks, is_rock[blocks]
+    for step in range(1, min(sink, top + 1) + 1):
+        found = np.where(z + step <= top, index[x, y, np.minimum(z + step, top)], -1)
+        waits = waits & (found >= 0)
+    return np.where(waits & is_rock[found], found, blocks).astype(np.int64)
+
+
 def of_units(pairs: Pairs, units: Units, is_apart: bool, more: Sequence[Ints] = ()) -> Pairs:
     """The pairs of units that some of their blocks have, and others; within a unit none where
     `is_apart`."""

@@ -220,7 +220,8 @@ def of_terms(**changes):
 
 def without_dilution(text):
     rows = [row.split() for row in text.splitlines()]
-    return "".join(" ".join([*row[:5], str(int(row[5]) * 100 // 105)]) + "\n" for row in rows)
+    fed = ([*row[:5], str(int(row[5]) * 100 // 105), *row[6:]] for row in rows)
+    return "".join(" ".join(row) + "\n" for row in fed)
 
 
 def from_start(weights):

@@ -152,7 +152,8 @@ def test_a_sink_rate_is_kept_and_its_bound_is_lower(mine, tmp_path):
     """By the table alone: straight above a block of rock, two benches up, is one that is dug in an earlier year."""
     free, folder = mine[0], built(tmp_path / "s", TERMS + "sink = 2\n")
     said = run("schedule", folder)
-    assert "sink rate of 2 benches a year" in said
+    assert "which pit bound has accepted" in said
+    assert "counted by pitplan" not in said
     rows = of_table(folder)
     year = {(x, y, z): t for x, y, z, t in zip(rows.XC, rows.YC, rows.ZC, rows.year.fillna(99))}
     checked = 0
