@@ -11,6 +11,7 @@ import numpy as np
 import pytest
 from bundles import with_schedule
 from pitplan import Disagreement
+from pitplan.audit import recheck_schedule
 from pitplan.base.errors import NotAccepted
 from pitplan.pit.program import Pit
 from pitplan.pit.scheduled import Scheduled
@@ -20,8 +21,10 @@ from pitplan.schedule.pairs import Pairs
 from pitplan.schedule.periods_text import periods_text
 from pitplan.schedule.sending import Timetable
 from pitplan.schedule.unit_texts import UnitTexts
-from test_schedule_bound import PERIODS, best_of_all, made_up
-from test_schedule_cones import RICH, TERMS, checked
+from six_blocks import PERIODS, best_of_all, made_up
+
+RICH = mines.STUDY_TOML.replace("price = 8500", "price = 24000")
+TERMS = "\n[schedule]\nyears = 6\nmining_rate = 500e3\nmill_rate = 400e3\n"
 
 
 @pytest.mark.parametrize(
@@ -120,6 +123,13 @@ def sunk(tmp_path_factory):
     return with_schedule(folder, mines.table(6, 6, 5, 5), RICH + TERMS + "per_year = 2\nsink = 2\n")
 
 
+def rechecked(bundle, monkeypatch, capsys):
+    """What the bundle's checker says, in this process."""
+    for script in (recheck_schedule, recheck_schedule.recheck):
+        monkeypatch.setattr(script, "HERE", bundle)
+    return recheck_schedule.main(), capsys.readouterr().out
+
+
 def column_of(folder):
     """For which block each waits, as it stands behind the uses."""
     return [int(line.split()[6]) for line in open(folder / "schedule" / "uses.blocks")]
@@ -161,7 +171,7 @@ def test_the_bundles_checker_comes_to_the_same_bound(sunk, monkeypatch, capsys):
     bundle, found = sunk
     assert found.production.is_plain
     assert found.production.earliest.any()
-    status, said = checked(bundle, monkeypatch, capsys)
+    status, said = rechecked(bundle, monkeypatch, capsys)
     assert status == 0, said
     told = re.search(r"worth more than ([\d,.]+)\n", said)[1].replace(",", "")
     assert 0 <= found.bound - Decimal(told) < Decimal("0.00001")  # rounded up there
@@ -192,6 +202,6 @@ def test_the_bundles_checker_refuses(sunk, tmp_path, monkeypatch, capsys, mistak
     assert after != before
     periods.write_text(after[0])
     uses.write_text("".join(" ".join(row) + "\n" for row in after[1]))
-    status, said = checked(bundle, monkeypatch, capsys)
+    status, said = rechecked(bundle, monkeypatch, capsys)
     assert status == 1
     assert re.match("WRONG .* (by|of) the sink rate", said), said
