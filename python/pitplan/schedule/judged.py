@@ -47,7 +47,7 @@ def write_texts(
     multipliers : int array of shape (resources, periods), optional
         The prices of a bound.
     """
-    b, waits = study.model.blocks, block_waits(study, production)
+    b, waits = study.model.blocks, _block_waits(study, production)
     own = block_uses(study, production.blocks)
     uses = np.zeros((len(own), production.size), np.int64)
     uses[:, production.blocks] = own
@@ -75,7 +75,7 @@ def block_uses(study: Study, blocks: Ints) -> Ints:
     return np.stack([np.rint(each[blocks] * GRAIN).astype(np.int64) for each in found])
 
 
-def block_waits(study: Study, production: Production) -> list[Ints]:
+def _block_waits(study: Study, production: Production) -> list[Ints]:
     """The block of the model for which each waits by the sink rate, its own number where for none: a
     column, and none without a sink rate."""
     if production.terms.sink is None:
@@ -141,7 +141,7 @@ def _write_by_year(
     rock[production.blocks] = block_uses(study, production.blocks)[0]
     feed = np.append(np.zeros(count, np.int64), millable.feeds)
     numbers = np.arange(len(each))
-    waits = [np.append(column, numbers[count:]) for column in block_waits(study, production)]
+    waits = [np.append(column, numbers[count:]) for column in _block_waits(study, production)]
     table = [
         numbers,
         *(b[name].to_numpy()[each] for name in ("ix", "iy", "iz")),
