@@ -14,12 +14,14 @@ const USAGE: &str =
     "pit schedule (--prec <FILE> --upit <FILE> --uses <FILE> | [--prec <FILE>] --blocks <FILE> --settings <FILE>) --periods <FILE> [OPTIONS] <SCHEDULE>";
 
 const DETAILS: &str =
-    "Judges a schedule: in which period each block is dug. It is feasible where BROKEN has 0 and no line OVER comes; otherwise the status is 1.
+    "Judges a schedule: in which period each block is dug. It is feasible where BROKEN has 0 and no line EARLY or OVER comes; otherwise the status is 1.
 
 Answers:
   SCHEDULE count npv               how many blocks it digs, and what they are worth, each at the weight of its period
   BROKEN pairs                     so many times a block needs one that is dug later or never
   BREAKS block predecessor         the first 20 of those
+  EARLY pairs                      so many times a block waits for one by the periods and is dug too soon after it
+  WAITS block other                the first 20 of those
   OVER resource period used capacity
                                    the period uses more of the resource than it has: resources and periods count from 0
   BOUND v                          with --best: no feasible schedule is worth more than v
