@@ -457,19 +457,29 @@ class Economics:
         )
         at: dict[str, KeyPath] = {}
         for name, share in way.recovery.items():
-            at[name] = ("economics", METALS, name, "recovery")
+            at[name], rocks = ("economics", METALS, name, "recovery"), self._recovered(name)
             what = f"[economics] recovery of {name}"
             if name in own:
+                rocks = way.rocks
                 at[name] = ("economics", PROCESSES, way.name, "recovery", name)
                 what = f"[economics] {way.said} recovery of {name}"
             if at[name] not in known:
                 known[at[name]] = np.zeros(len(model))
                 with wrong.part(*at[name]):
                     _refuse_shares(what, share, at[name])
-                    known[at[name]] = _share(what, amount(what, share, model), model)
+                    known[at[name]] = _share(what, amount(what, share, model, rocks), model)
         with wrong.part(*way.key("processing")):
-            cost = _cost(way.what("processing"), way.cost, model)
+            cost = _cost(way.what("processing"), way.cost, model, way.rocks)
         return _Treated(takes, {name: known[key] for name, key in at.items()}, cost)
+
+    def _recovered(self, metal: str) -> Sequence[str] | None:
+        """The rocks that a metal's own recovery is asked for: those of all ways that have no other;
+        None of all but air."""
+        own = {each.name for each in self.processes if metal in each.recovery}
+        listed = [way.rocks for way in self.treatments if way.name not in own]
+        if any(rocks is None for rocks in listed):
+            return None
+        return [rock for rocks in listed for rock in rocks or ()]
 
     def _taken(self, model: Model, way: _Treatment) -> Bools:
         """Whether a block may go a way: its rock is one that it takes, its class none of waste, and
@@ -602,8 +612,9 @@ def _wrong_grade(metal: Metal, model: Model, grades: Floats, wrong: Bools) -> Pl
     ).with_cells(cells)
 
 
-def amount(what: str, given: Amount, model: Model) -> Floats:
-    """An amount for each block: a number, a column, a formula, or by rock.
+def amount(what: str, given: Amount, model: Model, rocks: Sequence[str] | None = None) -> Floats:
+    """An amount for each block: a number, a column, a formula, or by rock; `rocks` are those that a
+    table by rock is asked for, None of all but air. Blocks of others get 0 by it.
 
     Raises
     ------
@@ -625,7 +636,7 @@ def amount(what: str, given: Amount, model: Model) -> Floats:
             else _of_formula(given, model, what).astype(float)
         )
     kinds = [str(kind) for kind in b.rock.unique()]
-    _refuse_rocks(what, given, model, kinds)
+    _refuse_rocks(what, given, model, kinds, rocks)
     found: Floats = b.rock.map(
         {kind: float(given.get(kind, given.get("other", 0.0))) for kind in kinds}
     ).to_numpy(float)
@@ -633,12 +644,17 @@ def amount(what: str, given: Amount, model: Model) -> Floats:
 
 
 def _refuse_rocks(
-    what: str, given: Mapping[str, float], model: Model, kinds: Sequence[str]
+    what: str,
+    given: Mapping[str, float],
+    model: Model,
+    kinds: Sequence[str],
+    rocks: Sequence[str] | None,
 ) -> None:
-    """Refuses a table by rock that says nothing of a rock, or names one that no block is of: with
+    """Refuses a table by rock that says nothing of a rock that it is asked for, or names one that no block is of: with
     "other" that would count as one of the others. Each of them is told."""
     wrong = Gathered()
-    unsaid = sorted(set(kinds) - set(given) - {AIR}) if "other" not in given else []
+    asked = set(kinds) - {AIR} if rocks is None else set(kinds) & set(rocks)
+    unsaid = sorted(asked - set(given)) if "other" not in given else []
     unknown = [name for name in given if name not in (*kinds, "other", AIR)]
     with wrong.part():
         _refuse_misspelt(what, given, kinds, unsaid)
@@ -760,13 +776,13 @@ def _share(what: str, values: Floats, model: Model) -> Floats:
     return values
 
 
-def _cost(what: str, given: Amount, model: Model) -> Floats:
+def _cost(what: str, given: Amount, model: Model, rocks: Sequence[str] | None = None) -> Floats:
     """What a tonne costs, at least 0."""
     said = what.removesuffix(" cost")  # a process costs so much, and not its cost
     for value in given.values() if isinstance(given, Mapping) else [given]:
         if isinstance(value, (int, float)) and value < 0:
             raise PlanError(f"{said} costs {value:g} a tonne, less than nothing")
-    values = amount(what, given, model)
+    values = amount(what, given, model, rocks)
     wrong = values < 0
     if wrong.any():
         at = int(np.argmax(wrong))

@@ -24,6 +24,19 @@ def test_it_holds_and_each_certificate_is_checked_plainly(whole):
     assert lines[0].startswith("everything that was looked at holds"), lines
 
 
+def test_it_holds_where_tables_by_rock_say_nothing_of_rocks_that_a_process_does_not_take(tmp_path):
+    text = two_ways.TEXT.replace('"3.0 + 0.002 * (160 - ZC)"', "{ OXI = 3.4 }")
+    text = text.replace('copper = "0.45 + 0.1 * min(CU, 1)"', "copper = { OXI = 0.5 }")
+    assert text.count("{ OXI = 3.4 }") == text.count("{ OXI = 0.5 }") == 1
+    folder = bundled(tmp_path, text, two_ways.frame())
+    assert rechecked(folder)[1] == 0
+    of_toml("{ OXI = 3.4 }", "{ OXI = 3.5 }")(folder)
+    summed(folder)
+    lines, status = rechecked(folder)
+    assert status == 1
+    assert any("what each block brings and costs" in line for line in lines), lines
+
+
 def of_toml(was, now):
     """Another study.toml."""
 

@@ -187,6 +187,64 @@ def test_a_metals_own_recovery_and_payable_count_where_a_process_says_nothing():
     assert [way.revenue.tolist() for way in priced.ways] == [[400], [200], [800]]
 
 
+def of_rocks(*rocks):
+    """A model of one block of 1,000 tonnes of each rock, at 1 % of copper."""
+    count = len(rocks)
+    return mines.model_of(
+        pd.DataFrame(
+            {
+                "XC": [20.0 * i for i in range(count)],
+                "YC": [0.0] * count,
+                "ZC": [0.0] * count,
+                "IJK": [f"b{i}" for i in range(count)],
+                "TONNES": [1000.0] * count,
+                "CU": [1.0] * count,
+                "ROCK": list(rocks),
+            }
+        )
+    )
+
+
+def test_tables_by_rock_say_what_they_do_of_rocks_that_a_process_takes():
+    """By hand: 1,000 tonnes at 1 % are 10 tonnes of copper at 100 $; what isn't taken brings and costs nothing."""
+    heap = pp.Process(
+        "heap", {"OXI": 3.4, "MIX": 3.6}, ["OXI", "MIX"], {"copper": {"OXI": 0.6, "MIX": 0.5}}
+    )
+    mill = pp.Process("mill", {"SUL": 9.0, "MIX": 8.0}, ["SUL", "MIX"])
+    copper = pp.Metal("copper", "CU", price=100, recovery={"SUL": 0.9, "MIX": 0.8})
+    model = of_rocks("OXI", "MIX", "SUL")
+    priced = pp.Economics((copper,), 0.0, processes=(heap, mill)).priced(model)
+    by_rock = [list(model.blocks.rock).index(rock) for rock in ("OXI", "MIX", "SUL")]
+    assert [way.revenue[by_rock].tolist() for way in priced.ways] == [[600, 500, 0], [0, 800, 900]]
+    assert [way.processing[by_rock].tolist() for way in priced.ways] == [
+        [3400, 3600, 0],
+        [0, 8000, 9000],
+    ]
+    one = pp.Economics((copper,), 0.0, {"SUL": 9.0}, ["SUL"]).priced(model)
+    assert one.ways[0].processing[by_rock].tolist() == [0, 0, 9000]
+
+
+@pytest.mark.parametrize(
+    "cost, own, of_metal, said",
+    [
+        ({"OXI": 3.4}, {}, 0.8, "process heap cost: nothing is said of rock MIX"),
+        ({"OXI": 3.4, "MIXX": 3.6}, {}, 0.8, "no block is of rock 'MIXX'; is 'MIX' meant?"),
+        (3.0, {"copper": {"MIX": 1}}, 0.8, "recovery of copper: nothing is said of rock OXI"),
+        (3.0, {}, {"OXI": 1, "MIX": 1}, "recovery of copper: nothing is said of rock SUL"),
+        (3.0, {}, {"OXI": 1, "SUL": 1}, "recovery of copper: nothing is said of rock MIX"),
+    ],
+)
+def test_of_each_rock_that_a_process_takes_something_is_said(cost, own, of_metal, said):
+    """A metal's own recovery is asked for the rocks of all processes that have no other."""
+    heap = pp.Process("heap", cost, ["OXI", "MIX"], own)
+    mill = pp.Process("mill", 9.0, ["SUL"])
+    copper = pp.Metal("copper", "CU", price=100, recovery=of_metal)
+    with pytest.raises(PlanError) as error:
+        pp.Economics((copper,), 0.0, processes=(heap, mill)).priced(of_rocks("OXI", "MIX", "SUL"))
+    (each,) = error.value.each()
+    assert said in str(each)
+
+
 def test_what_may_not_be_dug_costs_more_than_the_best_processes_bring():
     """At the largest factor, 10 times the price; the second process recovers nearly all."""
     frame = table(5, 5, 3, 4)
