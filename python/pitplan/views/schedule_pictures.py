@@ -6,6 +6,7 @@ from typing import Any
 
 import numpy as np
 import pandas as pd
+from matplotlib.backends.backend_agg import FigureCanvasAgg
 from matplotlib.colors import BoundaryNorm, ListedColormap
 from matplotlib.figure import Figure
 from matplotlib.patches import Patch
@@ -39,6 +40,7 @@ _MINING, _WORTH = "#a3341f", "black"
 # of the mill, or of each process
 _MILLS = ("#1b5e8c", "#7a4a9e", "#2e7d32", "#b26a00", "#5d4037", "#00838f", "#ad1457")
 _LEFT, _WIDE, _GAP = 0.09, 0.87, 0.09  # of the figure's width, between grades the last
+_MOST_COLUMNS, _MARGIN = 5, 0.08  # of the legend below the tonnes; inches beside and below it
 
 
 def by_year(found: Schedule, years: pd.DataFrame) -> Figure:
@@ -67,7 +69,37 @@ def by_year(found: Schedule, years: pd.DataFrame) -> Figure:
     money.set_xlabel("Period" if found.production.terms.per_year > 1 else "Year")
     name = found.shells.study.model.name
     tonnes.set_title(f"{name}: schedule, at most {found.gap_text} below the best", fontsize=12)
+    _make_room(figure, tonnes, _add_legend(figure, tonnes), grades[0])
     return figure
+
+
+def _add_legend(figure: Figure, axes: Any) -> Any:
+    """A legend below the tonnes, in as many columns as the figure is wide enough for."""
+    margin = _MARGIN * figure.dpi
+    for columns in range(_MOST_COLUMNS, 0, -1):
+        legend = axes.legend(
+            loc="upper center", bbox_to_anchor=(0.5, -0.08), ncol=columns, frameon=False
+        )
+        taken = legend.get_window_extent()
+        if taken.x0 >= margin and taken.x1 <= figure.bbox.width - margin:
+            break
+    return legend
+
+
+def _make_room(figure: Figure, tonnes: Any, legend: Any, grades: Any) -> None:
+    """A figure that is higher by what the legend would print over the title of the grades: each
+    process is three entries of it."""
+    top = grades.get_tightbbox(FigureCanvasAgg(figure).get_renderer()).y1
+    lacks = top / figure.dpi + _MARGIN - legend.get_window_extent().y0 / figure.dpi
+    if lacks <= 0:
+        return
+    wide, high = figure.get_size_inches()
+    places = {axes: axes.get_position() for axes in figure.axes}
+    figure.set_size_inches(wide, high + lacks)
+    for axes, at in places.items():
+        up = at.y0 * high + (lacks if axes is tonnes else 0.0)
+        share = 1 / (high + lacks)
+        axes.set_position((at.x0, up * share, at.width, at.height * high * share))
 
 
 def _add_grades(figure: Figure, found: Schedule, years: pd.DataFrame) -> list[Any]:
@@ -142,7 +174,6 @@ def _add_tonnes(axes: Any, found: Schedule, years: pd.DataFrame) -> None:
                 label=label,
             )
     axes.set_ylabel(f"In a period ({rock.unit})")
-    axes.legend(loc="upper center", bbox_to_anchor=(0.5, -0.08), ncol=5, frameon=False)
 
 
 def _add_money(axes: Any, found: Schedule, years: pd.DataFrame) -> None:

@@ -2,6 +2,8 @@
 import mines
 import numpy as np
 import pytest
+import two_ways
+from matplotlib.backends.backend_agg import FigureCanvasAgg
 from pitplan import Study
 from pitplan.schedule import Schedule
 from pitplan.schedule.tables import Tables
@@ -26,6 +28,48 @@ def found(tmp_path_factory):
     Study.create(folder, plan.read_model(), plan.economics, plan.slopes)
     shells = Study(folder).shells(plan.factors)
     return Schedule.of(shells, plan.values["schedule"], plan.rates, (0.01, 600))
+
+
+def drawn(folder, text):
+    """The picture of a plan by years of a mine of several processes, and the texts of its first legend."""
+    plan = read_study_file(two_ways.written(folder, "\n[schedule]\nmining_rate = 600e3\n", text))
+    Study.create(folder, plan.read_model(), plan.economics, plan.slopes)
+    shells = Study(folder).shells(plan.factors)
+    made = Schedule.of(shells, plan.values["schedule"], plan.rates, (0.3, 600))
+    figure = schedule_pictures.by_year(made, Tables(made).years())
+    FigureCanvasAgg(figure).draw()
+    return figure, figure.axes[0].get_legend().get_texts()
+
+
+@pytest.mark.parametrize(
+    "third", ["flotation", "flotation of sulphides in the north"], ids=["short", "long"]
+)
+def test_entries_of_three_processes_stand_within_the_picture_and_above_the_grades(tmp_path, third):
+    way = f"""[[economics.processes]]
+name = "{third}"
+rocks = ["SUL"]
+cost = 5.0
+recovery = {{ copper = 0.5, gold = 0.2 }}
+rate = 90e3
+
+[slopes]"""
+    figure, texts = drawn(
+        tmp_path / "s", two_ways.TEXT.replace("[slopes]", way).replace("8500", "20000")
+    )
+    said = {text.get_text() for text in texts}
+    assert {f"Ore to {third}", f"Feed of {third}", f"Feed that {third} may get"} <= said
+    assert len(said) == 11  # three of each process, rock that may be dug, and waste
+    tonnes, money, *grades = figure.axes
+    title = grades[0]._left_title
+    assert title.get_text() == "Grade of ore"
+    over = title.get_window_extent().y1
+    ticks = min(tick.get_window_extent().y0 for tick in tonnes.get_xticklabels())
+    for text in texts:
+        box = text.get_window_extent()
+        assert over < box.y0 < box.y1 < ticks, text.get_text()
+        assert 0 < box.x0 < box.x1 < figure.bbox.width, text.get_text()
+    assert money.get_window_extent().y1 < min(a.get_window_extent().y0 for a in grades)
+    assert tonnes.title.get_window_extent().y1 < figure.bbox.height
 
 
 def heights(axes, label):
