@@ -115,9 +115,9 @@ def _do_all(name: str) -> None:
             os.write(sys.stdout.fileno(), f"$ {told['typed'][at - 1]}\n".encode())
         command = [sys.executable, "-I", "-c", _COMMAND, *words]
         ended = subprocess.run(command, stdin=subprocess.DEVNULL, pass_fds=(lock,)).returncode
-        status = _STOPPED if stopped else 128 - ended if ended < 0 else ended
+        before, status = status, _STOPPED if stopped else 128 - ended if ended < 0 else ended
         if words[0] == "page" and told["what"] == "compare" and not stopped:
-            status = 0  # the design is judged; why the page can't show it stands in the log
+            status = before  # of the design; why the page can't show it stands in the log
         if stopped or not is_done(status, words):
             break
     os.utime(folder / "going")
@@ -151,7 +151,7 @@ def _run_in(folder: Path) -> dict[str, Any] | None:
     if end is None:
         return {**run, "state": _unended(run), "seconds": time.time() - told["began"]}
     status, at = (int(part) for part in end.name.split("-")[1:])
-    well = is_done(status, [steps[at - 1][0]] if at else [""])
+    well = is_done(status, steps[0] if at else [""])
     state = "done" if well else "stopped" if status == _STOPPED else "failed"
     seconds = end.stat().st_mtime - told["began"]
     return {**run, "state": state, "status": status, "at": at, "seconds": seconds}

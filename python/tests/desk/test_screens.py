@@ -2,6 +2,9 @@
 import json
 import os
 import shutil
+import subprocess
+import time
+import tomllib
 
 import pytest
 
@@ -10,6 +13,8 @@ pytest.importorskip("starlette")
 from selenium.webdriver.common.keys import Keys
 
 from desks import NAMELESS, WIDE, Chromium, Desk
+from pitplan.base.files import host, write_json
+from pitplan.desk import runs
 from processes import TOP, said
 
 SCREENS = ("table", "money", "slopes", "pits", "pushbacks", "designs", "vary", "history")
@@ -345,9 +350,12 @@ def test_a_number_with_a_separator_is_named_and_put_right_by_a_button(browser, d
         browser.types(price, text)
         browser.sees(named, ".k-metals .fault")
         browser.sees(right, ".k-metals .fault .mend")
-        browser.click(".k-metals .fault .mend")
+        browser.script("document.querySelector('.k-metals .fault .mend').focus()")
+        browser.keys(Keys.ENTER)
         browser.until(lambda: f"{right}," in study.read_text(), right)
         browser.until(lambda: not browser.text(".fault"), "no error")
+        at = "return document.activeElement.id"
+        browser.until(lambda: browser.script(at) == price, "the focus is on its field")
 
 
 def test_the_manual_is_a_link_where_it_is_there(browser, desk):
@@ -387,6 +395,7 @@ def test_an_advice_is_put_in_and_a_row_is_shown(browser, desk, folder):
     (folder / "north" / "study.toml").write_text(text.replace(absent, 'absent = ["-99"]'))
     browser.get(f"{desk.address}/#/north/table")
     browser.sees("1 error on Prices and costs")
+    assert not browser.text(".guide")  # the table was refused
     browser.click("#nav a.wrong")
     browser.sees("'trace'", "[id='f.economics.metals']")
     browser.click(".row")
@@ -399,3 +408,114 @@ def test_an_advice_is_put_in_and_a_row_is_shown(browser, desk, folder):
         "the advice",
     )
     browser.sees("Nothing looks wrong")
+    browser.sees("are made up", ".guide")
+
+
+LATE = """const asks = window.fetch;
+window.fetch = async (path, how) => {
+  if (how?.method === 'PATCH') await new Promise(done => { setTimeout(done, 1500); });
+  return asks(path, how);
+}"""
+PENDING = "return document.documentElement.dataset.pending ?? '0'"
+PRICE = "i.economics.metals.0.price"
+
+
+@pytest.mark.parametrize(
+    "first, then, other, stays",
+    [
+        ("9100", "9250", None, 9250),
+        ("9100", "8500", None, 8500),  # what stood there before
+        ("9100", "9250", 7000, 7000),  # another's change isn't written over
+    ],
+)
+def test_a_correction_while_the_first_change_is_on_its_way(
+    browser, desk, folder, first, then, other, stays
+):
+    name = f"late-{then}-{other}"
+    shutil.copytree(folder / "hill", folder / name)
+    study = folder / name / "study.toml"
+    browser.get("about:blank")
+    browser.get(f"{desk.address}/#/{name}/money")
+    browser.sees("Nothing looks wrong")
+    browser.script(LATE)
+    browser.fills(f"[id='{PRICE}']", first)
+    browser.fills(f"[id='{PRICE}']", then)
+    if other:
+        study.write_text(study.read_text().replace("price = 8500", f"price = {other}"))
+    browser.until(lambda: browser.script(PENDING) == "0", "both are answered")
+    assert tomllib.loads(study.read_text())["economics"]["metals"][0]["price"] == stays
+    assert ("was changed meanwhile" in browser.text("#say")) == bool(other)
+    value = f"return document.getElementById('{PRICE}').value"
+    browser.until(lambda: browser.script(value) == str(stays), "what stands there")
+    browser.get("about:blank")  # the next test asks as the page does
+
+
+def test_a_text_that_is_refused_stays_open_and_a_second_save_is_taken(browser, desk, folder):
+    shutil.copytree(folder / "hill", folder / "texts")
+    study = folder / "texts" / "study.toml"
+    first = study.read_text()
+    browser.get(f"{desk.address}/#/texts/table")
+    browser.click("#edit")
+    browser.there("#edits")
+    browser.script(
+        "const e = document.getElementById('edits'); e.value = '# typed\\n' + e.value;"
+        " e.dispatchEvent(new Event('input'))"
+    )
+    study.write_text("# of an editor\n" + first)
+    browser.click("#save")
+    browser.sees("was changed meanwhile, by an editor", "#say")
+    browser.until(lambda: browser.script(PENDING) == "0", "it is answered")
+    typed = "return document.getElementById('edits')?.value ?? ''"
+    assert browser.script(typed).startswith("# typed")
+    assert study.read_text() == "# of an editor\n" + first
+    browser.click("#save")
+    browser.there("#edit")
+    assert study.read_text() == "# typed\n" + first
+
+
+CUT = """return [...document.querySelectorAll("#top h1, #stop")].filter(e => e.scrollWidth > e.clientWidth
+    || e.getBoundingClientRect().right > document.querySelector(".who").getBoundingClientRect().left)
+    .map(e => e.outerHTML)"""
+
+
+def test_the_name_of_a_study_is_whole_while_something_runs(browser, desk, folder):
+    name = "a-long-name-of-a-study"
+    shutil.copytree(folder / "hill", folder / name)
+    run = folder / name / "log" / "desk" / "0001-all"
+    run.mkdir(parents=True)
+    steps = [["build", name], ["shells", name]]
+    asked = {"what": "all", "typed": [f"pitplan {a} {b}" for a, b in steps], "steps": steps}
+    more = {"who": "Ana", "asked": {"what": "all"}, "began": time.time(), "root": str(folder)}
+    (run / "asked.json").write_text(json.dumps({**asked, **more}))
+    (run / "study.toml").write_bytes((folder / name / "study.toml").read_bytes())
+    begun = [{"event": "begin", "command": line.split()} for line in asked["typed"]]
+    (run / "events.jsonl").write_text("".join(f"{json.dumps(each)}\n" for each in begun))
+    (run / "going").touch()
+    going = subprocess.Popen(["sleep", "600"], start_new_session=True)
+    try:
+        told = {"pid": going.pid, "since": runs.since(going.pid), "host": host()}
+        write_json(run / "process.json", told)
+        browser.resized(1280, 800)
+        browser.get(f"{desk.address}/#/{name}/pits")
+        browser.there("#running #stop")
+        browser.sees(f"pitplan shells {name}", "#running")
+        assert browser.script(CUT) == []
+        assert browser.script(WIDE) == []
+    finally:
+        going.kill()
+        going.wait()
+
+
+def test_a_design_that_breaks_the_slopes_is_marked(browser, desk, folder):
+    shutil.copytree(folder / "hill", folder / "broken")
+    browser.get(f"{desk.address}/#/broken/designs")
+    browser.gives("#pick", TOP / "examples" / "hill-design.dxf")
+    browser.there("#compare:not([disabled])")
+    assert "is on its way" not in browser.text("#say")
+    browser.click("#compare")
+    browser.sees("the design breaks the slopes", "#main p.look")
+    browser.sees("design done by", "#main")
+    browser.sees("done", "#main .chip.warn")
+    browser.click("[id='to.history']")
+    browser.sees("done", ".runs-of .chip.warn")
+    assert "bad" not in browser.script("return document.querySelector('#say').innerHTML")

@@ -1,6 +1,6 @@
 // The desk's frame: what is asked of the server, the study that is open, its study.toml, its runs.
 import { at, button, chip, h, like, nodes, number, same, tip } from "./dom.js";
-import { bar, nameOf } from "./runs.js";
+import { bar, chipOf, nameOf } from "./runs.js";
 import { guide, home, screens } from "./screens.js";
 
 const POLL = 500; // milliseconds between two looks at a run
@@ -16,7 +16,6 @@ export const D = { home: null, naming: null, dropped: null, ...opened(null) };
 
 /** @param {string} id @returns {any} */
 export const byId = id => document.getElementById(id);
-/** @param {number} ms @returns {Promise<void>} */
 const pause = ms => new Promise(done => { setTimeout(done, ms); });
 /** @returns {string} the name of who sits here */
 const who = () => localStorage.getItem("who") ?? "";
@@ -27,6 +26,7 @@ export function say(text, kind = "") {
   const line = h("div", { className: `said ${kind}` }, text);
   byId("say").append(line);
   setTimeout(() => line.remove(), kind === "bad" ? 5 * SHOWN : SHOWN);
+  return line;
 }
 
 /** Asks before it is done. @param {string} question @returns {Promise<boolean>} */
@@ -111,7 +111,7 @@ async function write(body) {
   if (!told.ok) return draw();
   if (told.name !== D.study?.name) return undefined; // the study was left meanwhile
   if (!same(told.values?.model, D.study.values?.model)) relook();
-  D.study = told;
+  Object.assign(D, { study: told, edits: D.edits?.text === asked.text ? null : D.edits });
   if (told.kept) say(`what stood in study.toml is kept as ${told.kept}`, "good");
   D.changed = new Set(told.text.split("\n").flatMap((l, n) => (before.has(l) ? [] : [n])));
   await draw();
@@ -201,7 +201,7 @@ async function follow(run) {
   const now = await eventsOf(run.number);
   await draw();
   if (!now || now.state === "running") return;
-  say(`${nameOf(now)}: ${now.state}`, now.state === "done" ? "good" : "bad");
+  say(`${nameOf(now)}: ${now.state}`, chipOf(now).classList[1]);
   await reread().then(draw);
 }
 
@@ -282,10 +282,9 @@ function text(isStudy) {
   if (isStudy && D.edits && byId("edits")) return; // what is being typed stays
   const [{ edits }, { text: now, pulse: { etag } = {} }] = [D, D.study ?? {}];
   const edit = keep(D, "edits");
-  const save = () => { D.edits = null; return queue(() => edits); };
+  const save = () => queue(() => edits).then(() => { edits.etag = D.study?.pulse?.etag; });
   const [presses, body] = !isStudy ? [] : edits ? [[
-    button("Save", save, { className: "main", id: "save" }),
-    button("Leave it", () => edit(null))],
+    button("Save", save, { className: "main", id: "save" }), button("Leave it", () => edit(null))],
   h("textarea", { id: "edits", spellcheck: false, value: edits.text,
     "aria-label": "the text of study.toml", oninput: e => { edits.text = e.target.value; } })]
     : [button("Edit as text", () => edit({ text: now, etag }), { id: "edit" }),

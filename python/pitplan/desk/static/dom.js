@@ -123,12 +123,13 @@ export const choice = (id, options, now, pick, label) => h("select", { id, "aria
 export const labelled = (id, label, box) => h("span.pair", h("label", { htmlFor: id }, label), box);
 
 /** A box for a value that others may change meanwhile. What stood there when typing began goes with
- * what was typed, so that the later of two changes is known. @param {any} seen
- * @param {Object<string, any>} attributes @param {(text: string, seen: any) => any} take */
-export function box(seen, attributes, take) {
+ * what was typed, so that the later of two changes is known; then what was typed stands there.
+ * @param {any} seen @param {Told} attributes @param {Take} read @param {Function} take */
+export function box(seen, attributes, read, take) {
   const onchange = ({ target }) => {
-    target.defaultValue = target.value; // nothing is being typed any more
-    return take(target.value, target.seen);
+    const [was, now] = [target.seen, read(target.value)]; // nothing is being typed any more
+    Object.assign(target, { defaultValue: target.value, seen: now });
+    return take(now, was);
   };
   return Object.assign(h("input", { ...attributes, onchange }), { seen });
 }

@@ -7,6 +7,8 @@ import { labelOf } from "./screens.js";
 
 /** @typedef {{section: string, name: string, kind: string, label: string, schema: any,
  *   start: any, default: any, choices: string[]}} Key as study_keys.py has it */
+const placed = path => path.map((step, i) => (i === 2 && Array.isArray(valueOf(path.slice(0, 2)))
+  ? listNow(path[1]).findIndex((each, n) => [each.name, n].includes(step)) : step));
 /** @param {any[]} path @returns {string} */
 const idOf = path => `i.${path.join(".")}`;
 const columns = () => (D.look?.columns ?? []).map(c => c.name);
@@ -19,10 +21,8 @@ const word = text => text.trim() || null;
 const value = text => (Number.isNaN(Number(text)) ? text.trim() : word(text) && Number(text));
 const unitOf = k => k.unit.replace("{currency}", valueOf(["economics", "currency"]) ?? "$");
 const numbers = text => word(text) && text.split(",").map(value);
-/** @param {any[]} path @param {any} now
- * @param {any} was what stood there for whoever changes it; what stands there, if undefined */
-export const set = (path, now, was) => (same(valueOf(path) ?? null, now) ? undefined
-  : change({ path, value: now, was }));
+/** @param {any} was what stood there for whoever changes it; what stands there, if undefined */
+export const set = (path, now, was) => !same(was, now) && change({ path, value: now, was });
 const out = (path, title) => small("×", () => set(path, null), title);
 
 /** A box for a number or words. @param {any[]} path @param {Key} key @param {{width?: number,
@@ -33,7 +33,7 @@ function input(path, key, { width, list, shown = valueOf(path), read = value } =
   return box(valueOf(path) ?? null, { id: idOf(path), className: `w${width ?? (isOwn ? 7 : 5)}`,
     list, value: shown ?? "", placeholder: isOwn && typeof key.default !== "object" && key.default,
     "aria-label": (isOwn || step) && `${key.label} ${step}`, autocomplete: "off" },
-  (text, was) => set(path, read(text), was));
+  read, (now, was) => set(path, now, was));
 }
 
 /** @param {any[]} path @param {any[]} options @param {Key} key @param {string} [empty] what none
@@ -100,8 +100,7 @@ function form(path, key, schema = key.schema) {
     : input(path, key, { width: 34, shown: valueOf(path)?.join?.(", "), read: numbers });
 }
 
-/** A value that is told in one of several ways. @param {any[]} path @param {Key} key
- * @param {any[]} ways their schemas */
+/** A value told in one of several ways. @param {any[]} path @param {Key} key @param {any[]} ways */
 function several(path, key, ways) {
   const now = valueOf(path);
   const at = Math.max(ways.findIndex(way => fits(now ?? key.default, way)), 0);
@@ -130,8 +129,7 @@ function parts(path, key, schema, end = () => set(path, null)) {
   isWhole && out(path, `take ${key.label} out`));
 }
 
-/** A list of bearings, each with its degrees. @param {any[]} path @param {Key} key
- * @param {any} items their schema */
+/** Bearings, each with its degrees. @param {any[]} path @param {Key} key @param {any} items */
 function bearings(path, key, items) {
   const now = valueOf(path);
   const order = [...now.keys()].sort((i, j) => now[i][0] - now[j][0]);
@@ -209,10 +207,9 @@ function tables(path, { name: list }) {
   const cell = (each, i, k) => [formOf([...path, i, k.name], { ...k,
     label: `${k.label} of ${each.name}`, default: k.default ?? valueOf(["economics", k.name]) }),
   example(each[k.name], examples.map(one => one[k.name]), k)];
-  const rows = now.map((each, i) => h("tbody",
-    h("tr", short.map(k => h("td", cell(each, i, k))),
-      h("td", (now.length > 1 || list === "processes")
-        && out(now.length > 1 ? [...path, i] : path, `take ${each.name} out`))),
+  const rows = now.map((each, i) => h("tbody", h("tr", short.map(k => h("td", cell(each, i, k))),
+      h("td", (now.length > 1 || list === "processes") && out(
+        now.length > 1 ? [...path, i] : path, `take ${each.name} out`))),
     h("tr.second", h("td", { colSpan: 8 }, amounts(long.map(k => labelled(
       idOf([...path, i, k.name]), [k.label, h("small", ` ${unitOf(k)}`)], cell(each, i, k)))))),
     h("tr", h("td", { colSpan: 8 }, faults().filter(f => isOf(f, list, each, i)).map(faultBox)))));
@@ -274,7 +271,8 @@ export function mend(remedy) {
   const had = valueOf(path);
   const now = adds && Array.isArray(had) ? [...new Set([...had, ...right])] : right;
   return (other === null ? [now] : [now, other]).map(v => button(
-    `put it in: ${path.at(-1)} = ${JSON.stringify(v)}`, () => change({ path, value: v }),
+    `put it in: ${path.at(-1)} = ${JSON.stringify(v)}`, () => change({ path, value: v }).then(
+      () => document.activeElement === document.body && byId(idOf(placed(path)))?.focus()),
     { className: "small mend", title }));
 }
 

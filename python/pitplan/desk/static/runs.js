@@ -57,7 +57,8 @@ function best({ names, rows }) {
 /** How each event of a run is told. @type {Object<string, (event: any) => any>} */
 const SAID = {
   // what to type next in a terminal stands beside the buttons
-  said: e => h("p.said-line", e.what.replace(/; (then|certificates): \S*pitplan .*$/, "")),
+  said: e => (/^(look:|the design (breaks|digs)) /.test(e.what) ? look(e.what.replace("look: ", ""))
+    : h("p.said-line", e.what.replace(/; (then|certificates): \S*pitplan .*$/, ""))),
   look: e => look(e.what, e.try && `; try: ${e.try}`),
   error: e => faultBox({ ...e, key: e.key ?? [] }),
   table: e => [h("h3", e.title), table(e.names, e.rows, { className: "tight", rows: best(e) })],
@@ -81,7 +82,8 @@ const NAMES = { all: "build, and pits", shells: "pits", phases: "pushbacks", com
 /** @param {any} run @returns {string} what it is called */
 export const nameOf = run => NAMES[run.what] ?? run.what;
 const CHIPS = { done: "good", failed: "bad", killed: "bad", running: "" };
-export const chipOf = run => chip(CHIPS[run.state] ?? "warn", run.state);
+export const chipOf = ({ state, status }) => chip(state === "done" && status ? "warn"
+  : CHIPS[state] ?? "warn", state);
 export const linesOf = run => run.typed.map(words => h("code.line", words));
 export const logOf = run => h("a", { href: file(`${run.folder}/log`, "?save=1"),
   download: `${run.number}.log` }, "log");

@@ -15,11 +15,11 @@ const oneOf = (id, one, own, key) => tick(id, one, own[key].includes(one),
 /** Takes a file to the server. @param {File} dropped @param {string} path
  * @param {(told: any) => any} then @param {string} how "?over=1" in place of one that is there */
 async function send(dropped, path, then, how = "") {
-  say(`${dropped.name}, ${size(dropped.size)}, is on its way`);
+  const line = say(`${dropped.name}, ${size(dropped.size)}, is on its way`);
   const told = await ask("PUT", path + how, dropped, { raw: true, quiet: true });
   D.dropped = told.ok ? null : { ...told, again: () => send(dropped, path, then, "?over=1") };
   if (told.ok) await then(told);
-  await draw();
+  await draw().then(() => line.remove());
 }
 
 /** A place for files. @param {string} words @param {string} ends @param {(f: File) => any} take */
@@ -110,8 +110,7 @@ function tableScreen() {
       "The table looks otherwise: ", seen.differs.map(([key, found]) => small(
         `${key} = ${JSON.stringify(found)}`, () => set(["model", key], found)))),
     h("details", isOpen ? { open: true, id: "folded.wrong" } : { id: "folded" },
-      h("summary", "Holes, sub-blocks, edges, the file's spelling"),
-      fields("model", isFolded)))),
+      h("summary", "Holes, sub-blocks, edges, the file's spelling"), fields("model", isFolded)))),
     h("div", isRead ? [card("The ground", ground("ground", "elevation of the ground")),
       by && card(h("label", "From above: ", choice("paint", paints, paint.by, keep(paint, "by"))),
         ground(by, "from above"))]
@@ -158,8 +157,7 @@ function walls({ names, rows, said, looks: all }) {
 }
 
 const slopes = () => [banner(), card("What is asked for", fields("slopes")),
-  D.rose?.rows ? walls(D.rose)
-    : card("Walls by bearing", tip(D.rose ? "" : "are looked for ...")),
+  D.rose?.rows ? walls(D.rose) : card("Walls by bearing", tip(D.rose ? "" : "are looked for ...")),
   card("The same as a table and a picture", runner("slopes", "Write them", { what: "slopes" })),
   runsOf("slopes")];
 
@@ -171,8 +169,7 @@ function build() {
   const { old } = D.study.state;
   return [banner(), card("Series of pits", fields("shells"),
     factors.length > 0 && tip(`${factors.length} pits, at `, factors.map(f => f / 1000).join(", "),
-      " of the price. Rates are for the discounted cases alone.")),
-  card("Run", old && look(old),
+      " of the price. Rates are for the discounted cases alone.")), card("Run", old && look(old),
     runner("all", "Build, and find the pits", { what: "all", ...more }, { main: true }),
     runner("build", "Build", { what: "build" }),
     runner("shells", "Find the pits", { what: "shells", ...more }, { needs: true }),
@@ -311,20 +308,17 @@ export function guide(screen) {
   const order = ["table", "money", "slopes", "pits"];
   const [, then] = order.slice(order.indexOf(screen));
   const isBegun = D.study.runs.some(run => ["all", "build", "shells"].includes(run.what));
-  return order.includes(screen) && !D.study.state.there && !isBegun && h("p.card.guide",
-    written(screen), then && [" Then go on: ", tab("then", [then], screens[then].label, false)]);
+  const isOwn = order.includes(screen) && !D.study.state.there && !faults().length;
+  return isOwn && !isBegun && h("p.card.guide", written(screen), then
+    && [" Then go on: ", tab("then", [then], screens[then].label, false)]);
 }
 
 /** All screens of a study, in the order of a working day. */
 export const screens = {
-  table: { label: "Table", draw: tableScreen },
-  money: { label: "Prices and costs", draw: money },
-  slopes: { label: "Slopes", draw: slopes },
-  pits: { label: "Build and pits", draw: pits },
-  pushbacks: { label: "Pushbacks", draw: pushbacks },
-  designs: { label: "Designs", draw: designs },
-  vary: { label: "What if", draw: whatIf },
-  history: { label: "History", draw: history },
+  table: { label: "Table", draw: tableScreen }, money: { label: "Prices and costs", draw: money },
+  slopes: { label: "Slopes", draw: slopes }, pits: { label: "Build and pits", draw: pits },
+  pushbacks: { label: "Pushbacks", draw: pushbacks }, designs: { label: "Designs", draw: designs },
+  vary: { label: "What if", draw: whatIf }, history: { label: "History", draw: history },
 };
 /** @param {string} place a screen, or a part of one @returns {string} what it is called */
 export const labelOf = place => PARTS[place.split("/")[1]]?.[0] ?? screens[place].label;
