@@ -653,11 +653,11 @@ def _refuse_rocks(
     """Refuses a table by rock that says nothing of a rock that it is asked for, or names one that no block is of: with
     "other" that would count as one of the others. Each of them is told."""
     wrong = Gathered()
-    asked = set(kinds) - {AIR} if rocks is None else set(kinds) & set(rocks)
-    unsaid = sorted(asked - set(given)) if "other" not in given else []
+    absent = sorted(set(kinds) - set(given) - {AIR}) if "other" not in given else []
+    unsaid = [rock for rock in absent if rocks is None or rock in rocks]
     unknown = [name for name in given if name not in (*kinds, "other", AIR)]
     with wrong.part():
-        _refuse_misspelt(what, given, kinds, unsaid)
+        _refuse_misspelt(what, given, kinds, absent)
         if unsaid:
             first = _row_at(model, int(np.argmax(model.blocks.rock == unsaid[0])))
             named = ", ".join(rock or "without a name, an empty cell" for rock in unsaid)
