@@ -99,11 +99,23 @@ def _once(folder: Path) -> Checked:
         print_tonnage(tonnage)
     if parts and not found.errors:
         plan = parts.whole()
-        found.errors += _wrong_pushbacks(plan, folder)
+        found.errors += [*_wrong_cutoff(plan), *_wrong_pushbacks(plan, folder)]
         for line in _order_said(plan.values["schedule"]) if not found.errors else ():
             say(line)
     tell_strange(found.looks)
     return found
+
+
+def _wrong_cutoff(plan: StudyFile) -> list[PlanError]:
+    """What `schedule` would refuse of several processes: a cut-off by year beside them."""
+    from ..schedule.terms import refuse_by_year
+
+    try:
+        processes = plan.economics.rates.get("process_rates", {})
+        refuse_by_year(processes, plan.values["schedule"].get("cutoff"))
+    except PlanError as error:
+        return [error]
+    return []
 
 
 def _wrong_pushbacks(plan: StudyFile, folder: Path) -> list[PlanError]:

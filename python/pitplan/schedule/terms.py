@@ -95,7 +95,8 @@ def terms_of(
     processes: Mapping[str, float | None] = (
         values.get("process_rates") or rates.get("process_rates") or {}
     )
-    _refuse_processes(processes, values.get("cutoff") == _CUTOFFS[1])
+    refuse_by_year(processes, values.get("cutoff"))
+    _refuse_processes(processes)
     mills = list(processes.values()) or [values.get("mill_rate") or rates.get("mill_rate")]
     yearly = list(map(_by_year, [values.get("mining_rate") or rates.get("mining_rate"), *mills]))
     if not any(yearly):
@@ -151,21 +152,32 @@ def _keys_of(processes: Mapping[str, float | None]) -> list[str]:
     return [f"rate of process {name}" for name in processes] or ["mill_rate"]
 
 
-def _refuse_processes(processes: Mapping[str, float | None], is_by_year: bool) -> None:
-    """Refuses more processes than `pit` reads the uses of, and a cut-off by year beside several.
+def refuse_by_year(processes: Mapping[str, float | None], cutoff: str | None) -> None:
+    """Refuses a cut-off by year beside several processes.
+
+    Parameters
+    ----------
+    processes : mapping of str to float or None
+        The rate of each, by its name.
+    cutoff : str or None
+        As [schedule] says it.
 
     Raises
     ------
     PlanError
         With what to try.
     """
-    if is_by_year and len(processes) > 1:
+    if cutoff == _CUTOFFS[1] and len(processes) > 1:
         raise PlanError(
             '[schedule] cutoff = "by year" chooses between one mill and waste, and there are'
             f" {len(processes)} processes",
             try_this='cutoff = "fixed": each block goes where it is worth most at the full price',
             key=("schedule", "cutoff"),
         )
+
+
+def _refuse_processes(processes: Mapping[str, float | None]) -> None:
+    """Refuses more processes than `pit` reads the uses of."""
     if len(processes) >= _MOST_RESOURCES:
         raise PlanError(
             f"a plan by years counts rock and the feed of {_MOST_RESOURCES - 1} processes at most,"

@@ -77,6 +77,7 @@ _MOSTLY = (
 _LIMIT = re.compile(r"<\s*\d*[.,]?\d+")  # below the limit of an assay
 _MOST_LIMITS = 20
 _MOST_REGIONS = 12  # of slopes: a column with more words than that names something else
+_MOST_ROCKS = 12  # that are named
 # how a rock is called that is none
 _AIRS = re.compile(r"air|aire|ar|airblock|void|vacio|vacío|vazio", re.IGNORECASE)
 # how oxide and sulphide are called
@@ -206,7 +207,11 @@ def look_at(
     if "rock" in names:
         look.rocks = [
             str(rock)
-            for rock in frame[names["rock"]].fillna("").str.strip().value_counts().index[:12]
+            for rock in frame[names["rock"]]
+            .fillna("")
+            .str.strip()
+            .value_counts()
+            .index[:_MOST_ROCKS]
         ]
         look.airs = _airs_among(frame, names, look.absent)
     if not {"tonnes", "density"} & set(names):
@@ -493,14 +498,18 @@ def _processes(look: _Look) -> str:
     if not look.oxides:
         return ""
     of_metal = tomllib.loads(f"metals = [{metals(look)}]")["metals"][0]["name"]
+    named = look.oxides + look.sulphides
+    others = [rock for rock in look.rocks if rock not in (*named, *look.airs)]
     listed: tuple[tuple[str, list[str], str, list[str]], ...] = (
-        ("mill", look.oxides + look.sulphides, "9.00", []),
+        ("mill", named + others if len(look.rocks) < _MOST_ROCKS else [], "9.00", []),
         ("leach", look.oxides, "4.00", [f"recovery = {{ {key(of_metal)} = 0.6 }}"]),
     )
     lines = ["where oxide may go to a leach too, say this in place of processing and mill:"]
     for name, rocks, cost, more in listed:
         lines += ["[[economics.processes]]", f'name = "{name}"']
-        lines += [f"rocks = [{', '.join(map(_quoted, rocks))}]", f"cost = {cost}", *more]
+        # without rocks a process takes all of them, also those that were too many to be named
+        lines += [f"rocks = [{', '.join(map(_quoted, rocks))}]"] if rocks else []
+        lines += [f"cost = {cost}", *more]
     return "".join(f"# {line}\n" for line in lines)
 
 

@@ -17,11 +17,12 @@ from ..base.arrays import Bools, Ints
 from ..base.errors import KeyPath, Remedy
 from ..base.strange import Strange, rounded
 from ..base.units import PRICES
-from ..base.units_shown import length_text
+from ..base.units_shown import amount_text, length_text, printed_scale
 from ..base.usual_metals import usual_price
 from ..model.economics import Economics, Metal
 from ..model.grid import Grid
 from ..model.model import Model, TableKeys
+from .pit_by_pit import YEARS
 from .plausible import strange
 from ..table.column_names import AIR, columns_with, misnamed, said_of_misnamed
 from ..table.parts_of_blocks import is_part, remedy_of_part
@@ -38,6 +39,7 @@ _FAR_OFF = (
 _DENSEST = 8  # tonnes for a cubic unit; ores of iron have up to 5
 _TIMES_DENSER = 5  # how many times the usual density a block's may be
 _FEW = 10  # cells that are looked at so
+_RICH = 0.1  # the share of a rock that has grades as ore has
 _EVERYWHERE = 0.95  # the share of the rock from which on a formula keeps nearly all
 _TIMES_USUAL = 8  # how many times a metal's usual price a price may be, or its share
 _LEAST_SELLING, _MOST_SELLING = 5e-4, 0.6  # of the price
@@ -98,6 +100,7 @@ def looks(model: Model, priced: Priced, plan: _Says) -> list[Strange]:
         *_of_ground(model, rock),
         *_of_weights(model, rock),
         *_of_weightless(model, plan),
+        *_of_untaken(model, priced, plan.economics),
         *_of_density(model),
         *_of_cells(model, plan.economics),
         *of_unread(model, plan),
@@ -206,6 +209,33 @@ def _of_weightless(model: Model, plan: _Says) -> Iterator[Strange]:
             )
 
 
+def _of_untaken(model: Model, priced: Priced, economics: Economics) -> Iterator[Strange]:
+    """Rocks that none of several processes takes, and that have grades as ore has: by what a tonne
+    brings before any recovery, beside the poorest tonne that is treated."""
+    ore, listed = priced.treated(THOUSAND), [way.rocks for way in economics.treatments]
+    if not economics.processes or not ore.any() or any(rocks is None for rocks in listed):
+        return
+    brings = np.zeros(len(model))
+    for metal in economics.metals:
+        a_unit = metal.content() * metal.price * economics.rate_of(metal)
+        brings += priced.grade[metal.name] * a_unit
+    taken = {AIR, *(rock for rocks in listed for rock in rocks or ())}
+    kinds, tonnes = model.blocks["rock"].astype(str), model.blocks["tonnes"].to_numpy(float)
+    for kind in sorted(set(kinds) - taken):
+        here = (kinds == kind).to_numpy()
+        waste, rich = (
+            float(tonnes[at].sum()) for at in (here, here & (brings >= brings[ore].min()))
+        )
+        if rich > _RICH * waste:
+            scale = printed_scale([waste], model.units.weight)
+            yield Strange(
+                f"no process takes {kind}: {amount_text(waste, scale)} {scale.unit} are waste",
+                f"{amount_text(rich, scale)} {scale.unit} of it have grades as ore has",
+                f'"{kind}" in rocks of a process',
+                ("economics", PROCESSES),
+            )
+
+
 def _of_density(model: Model) -> Iterator[Strange]:
     """Blocks that are denser than any rock, or than most others, as a slip of the decimal makes
     them. Where most are, the unit is another, of which the tonnes tell."""
@@ -301,7 +331,7 @@ def _words_in(value: Any) -> list[str]:
 
 
 def _of_costs(priced: Priced, rock: Bools, economics: Economics) -> Iterator[Strange]:
-    """Work that costs nothing."""
+    """Work that costs nothing, and processes that are too dear for any block."""
     dug = rock & ~priced.forbidden
     if dug.any() and (priced.mining[dug] == 0).mean() > 0.5:
         yield Strange(
@@ -314,6 +344,15 @@ def _of_costs(priced: Priced, rock: Bools, economics: Economics) -> Iterator[Str
             ("economics", "mining"),
         )
     for (way, ore), said in zip(priced.by_way(THOUSAND), economics.treatments):
+        if not ore.any() and priced.treated(THOUSAND).any():
+            is_one = isinstance(said.cost, (int, float))
+            yield Strange(
+                f"no block goes to {way.name} at the full price"
+                + (f"; it costs {said.cost:,.6g} {economics.currency} a tonne" if is_one else ""),
+                "",
+                f"cost, recovery and rocks of {said.said}",
+                said.key("processing"),
+            )
         if ore.any() and (way.processing[ore] == 0).mean() > 0.5:
             key = said.key("processing")
             yield Strange(
@@ -418,6 +457,14 @@ def of_rates(model: Model, priced: Priced, rates: Mapping[str, Any]) -> Iterator
         asked.append(("ore", treated, ore, "mill_rate in [shells]", ("shells", "mill_rate")))
     for (name, rate), feed in zip(of_processes, feeds):
         key: KeyPath = ("economics", PROCESSES, name, "rate")
+        if rate is None and any(told for _, told in of_processes):
+            yield Strange(
+                f"{name} has no rate: the discounted cases take its feed of the largest pit in"
+                f" {YEARS} years, and the plan by years has no limit for it",
+                "",
+                f"rate = .. in process {name}",
+                key,
+            )
         asked.append((f"feed of {name}", rate, feed, f"rate of process {name}", key))
     for what, rate, amount, said, key in asked:
         years = amount / rate if rate else 1.0

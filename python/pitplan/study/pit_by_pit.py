@@ -18,7 +18,7 @@ from ..table.wrong_values import refuse_wrong
 if TYPE_CHECKING:
     from .shells import Shells
 
-_YEARS = 15  # that the largest pit takes, where no rate is given
+YEARS = 15  # that the largest pit takes, where no rate is given
 _MOST_YEARS = 1000  # that it may take: what needs longer has a rate in another unit
 
 
@@ -29,7 +29,7 @@ class Rates:
     Parameters
     ----------
     mining : float, optional
-        Tonnes of rock a year. Default: the largest pit in `_YEARS` years.
+        Tonnes of rock a year. Default: the largest pit in `YEARS` years.
     mill : float, optional
         Tonnes of the mill's feed a year; likewise.
     discount : float
@@ -99,13 +99,13 @@ class Rates:
             if rate and tonnes > _MOST_YEARS * rate:
                 raise PlanError(
                     f"{what} = {rate:g}: the largest pit's {tonnes:,.0f} tonnes would take {min(tonnes / rate, 1e9):,.0f} years",
-                    try_this=f"{key} in tonnes a year, as {max(tonnes / _YEARS, 1):.2g}; the pits stand, and aren't found again",
+                    try_this=f"{key} in tonnes a year, as {max(tonnes / YEARS, 1):.2g}; the pits stand, and aren't found again",
                 )
         found = [
-            (name, rate or max(feed / _YEARS, 1.0)) for (name, rate), feed in zip(self.named, feeds)
+            (name, rate or max(feed / YEARS, 1.0)) for (name, rate), feed in zip(self.named, feeds)
         ]
         return Rates(
-            self.mining or max(rock / _YEARS, 1.0),
+            self.mining or max(rock / YEARS, 1.0),
             None if self.processes else found[0][1],
             self.discount,
             dict(found) if self.processes else {},

@@ -1,12 +1,16 @@
 """Tables that tell tonnes, grades and metal by process: added up again from the planner's own table, by two_ways.py alone."""
+import re
+
 import numpy as np
 import pandas as pd
 import pytest
 
+import mines
 import pitplan as pp
 import two_ways
 from pitplan.plans import compare, design, phases, risk, vary
 from pitplan.study import pit_by_pit
+from pitplan.study.check import check
 from pitplan.base.units_shown import factor_text
 from pitplan.study.reserves import reserves
 from pitplan.study.shells import Shells
@@ -16,6 +20,7 @@ from pitplan.views.export import csv, gpkg, vtu
 from pitplan.views.report import contents
 from pitplan.tasks.task import Tasks
 from realisations import done
+from served import pitplan
 from two_ways import COLUMNS, NAMES, added_up, rows_at
 
 
@@ -334,3 +339,80 @@ def test_the_report_has_pushbacks_by_process(shells, rows):
         for name in NAMES:
             here = [row for row in rows if low < row["shell"] <= high and row["to"] == name]
             assert shown.get((k, name), 0.0) == pytest.approx(sum(row["ore_t"] for row in here))
+
+
+def looks_of(folder, *changes, rock=None):
+    """What `check` says looks wrong of the mine of two ways, with changes of study.toml; `rock` is what every third block of sulphide
+    is called."""
+    text = two_ways.TEXT
+    for was, now in changes:
+        assert was in text
+        text = text.replace(was, now)
+    frame = two_ways.frame()
+    if rock:
+        frame.loc[frame.index[frame["ROCK"] == "SUL"][::3], "ROCK"] = rock
+    mines.written_study(folder, frame, text)
+    found = check(folder)
+    assert not found.errors, found.errors
+    return frame, [str(look) for look in found.looks], [look.key for look in found.looks]
+
+
+def test_a_rate_that_one_of_several_processes_has_not_is_told(tmp_path):
+    _, told, keys = looks_of(tmp_path, ("rate = 120e3\n", ""))
+    assert told == [
+        "leach has no rate: the discounted cases take its feed of the largest pit in 15 years,"
+        " and the plan by years has no limit for it\n  try: rate = .. in process leach"
+    ]
+    assert keys == [("economics", "processes", "leach", "rate")]
+    assert looks_of(tmp_path)[1] == []
+    none = looks_of(tmp_path, ("rate = 120e3\n", ""), ("rate = 250e3\n", ""))
+    assert none[1] == []  # no process has one: the planner hasn't come to rates yet
+
+
+def test_a_rock_with_grades_that_no_process_takes_is_told(tmp_path):
+    """Tonnes by the table itself."""
+    by_rock = ("{ OXI = 0.7, SUL = 0.85 }", "0.8")
+    of_mill = ("cost = { OXI = 11.0, SUL = 9.0 }", 'cost = 9.0\nrocks = ["OXI", "SUL"]')
+    frame, told, keys = looks_of(tmp_path, by_rock, of_mill, rock="MIXED")
+    tonnes = frame["TONNES"][frame["ROCK"] == "MIXED"].sum()
+    (look,) = told
+    assert look.startswith(f"no process takes MIXED: {tonnes / 1e3:.2f} kt are waste; ")
+    assert look.endswith('\n  try: "MIXED" in rocks of a process')
+    assert keys == [("economics", "processes")]
+    all_rocks = ("cost = { OXI = 11.0, SUL = 9.0 }", "cost = 9.0")
+    assert looks_of(tmp_path, by_rock, all_rocks, rock="MIXED")[1] == []
+
+
+def test_a_rock_without_grades_that_no_process_takes_is_waste_and_no_more(tmp_path):
+    text = two_ways.TEXT.replace("{ OXI = 0.7, SUL = 0.85 }", "0.8").replace(
+        "cost = { OXI = 11.0, SUL = 9.0 }", 'cost = 9.0\nrocks = ["OXI", "SUL"]'
+    )
+    frame = two_ways.frame()
+    here = frame.index[frame["ROCK"] == "SUL"][::3]
+    frame.loc[here, "ROCK"], frame.loc[here, ["CU", "AU"]] = "BARREN", 0.0
+    mines.written_study(tmp_path, frame, text)
+    assert check(tmp_path).looks == []
+
+
+def test_a_process_that_gets_no_block_is_told(tmp_path):
+    dear = ('cost = "3.0 + 0.002 * (160 - ZC)"', "cost = 90")
+    _, told, keys = looks_of(tmp_path, dear)
+    assert told == [
+        "no block goes to leach at the full price; it costs 90 $ a tonne\n"
+        "  try: cost, recovery and rocks of process leach"
+    ]
+    assert keys == [("economics", "processes", "leach", "cost")]
+    _, told, _ = looks_of(tmp_path, (dear[0], 'cost = "90 + ZC"'))
+    assert [look.split("\n")[0] for look in told] == ["no block goes to leach at the full price"]
+
+
+def test_check_refuses_a_cutoff_by_year_beside_several_processes(tmp_path):
+    """As `schedule` does, and before anything is built."""
+    two_ways.written(tmp_path, '\n[schedule]\ncutoff = "by year"\n')
+    ran = pitplan("check", str(tmp_path))
+    assert ran.returncode != 0
+    words = " ".join((ran.stdout + ran.stderr).split())
+    assert 'cutoff = "by year" chooses between one mill and waste' in words
+    assert re.search(r'study.toml:\d+: cutoff = "by year"', words)
+    two_ways.written(tmp_path, '\n[schedule]\ncutoff = "fixed"\n')
+    assert pitplan("check", str(tmp_path)).returncode == 0

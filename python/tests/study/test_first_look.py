@@ -242,6 +242,25 @@ def test_rocks_that_are_called_oxide_and_sulphide(tmp_path, rocks, oxides, sulph
     assert ("processes, if you want them: " in said) == bool(oxides)
 
 
+@pytest.mark.parametrize("more", [["MIXED"], ["MIXED", "TRANS"], [f"R{i}" for i in range(20)]])
+def test_no_rock_is_left_out_of_the_processes_that_init_offers(tmp_path, more):
+    """What is neither oxide nor sulphide goes to the mill; of very many rocks, all by no list."""
+    frame, rocks = table(9, 8, 5, 5), ["OXI", "SUL", *more]
+    weights = [9, 9, *(1 for _ in more)]
+    kinds = [rock for rock, weight in zip(rocks, weights) for _ in range(weight)]
+    frame["ROCK"] = [kinds[i % len(kinds)] for i in range(len(frame))]
+    frame.to_csv(tmp_path / "t.csv", index=False)
+    text = first_look.written(first_look.look_at(tmp_path / "t.csv"), "t.csv")
+    lines = [line[2:] for line in text.split("\n") if line.startswith("# ")]
+    offered = lines[lines.index("[[economics.processes]]") :]
+    mill, leach = offered[: offered.index('name = "leach"')], offered
+    listed = [line for line in mill if line.startswith("rocks = ")]
+    assert listed or len(more) == 20
+    for line in listed:
+        assert sorted(tomllib.loads(line)["rocks"]) == sorted(rocks)
+    assert 'rocks = ["OXI"]' in leach
+
+
 def test_the_processes_that_init_offers_are_a_study_once_they_are_no_comment(tmp_path):
     table(6, 5, 3, 3).to_csv(tmp_path / "t.csv", index=False)
     text = first_look.written(first_look.look_at(tmp_path / "t.csv"), "t.csv")
