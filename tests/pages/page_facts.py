@@ -181,7 +181,7 @@ def of_patterns(reader):
         "Where no {} offsets".format(
             5_000_000, MOST_PAIRS, MOST_PAIRS // 5_000_000, MOST_PAIRS // 5_000_000
         ),
-        "A pattern has at most 4,096 offsets, and a model at most {:,} pairs: 185 offsets fit {:,} blocks, and 25 offsets {:,}".format(
+        "A pattern has at most 4,096 offsets, a `.prec` file {:,} pairs: 185 offsets fit {:,} blocks, and 25 offsets {:,}".format(
             MOST_PAIRS, MOST_PAIRS // 185 // 1000 * 1000, MOST_PAIRS // 25 // 10**5 * 10**5
         ),
     ]

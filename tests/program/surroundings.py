@@ -171,6 +171,50 @@ def more_pairs_than_may_be(program):
             ) else "pairs of %s: %r" % (pattern, said)
 
 
+def run_within(kilobytes, program, words, folder):
+    """Status, output and errors of a run that may use so many kilobytes of addresses."""
+    done = subprocess.run(
+        [str(program), *words],
+        cwd=folder,
+        stdin=subprocess.DEVNULL,
+        capture_output=True,
+        timeout=SECONDS,
+        preexec_fn=lambda: resource.setrlimit(resource.RLIMIT_AS, (kilobytes << 10,) * 2),
+    )
+    return done.returncode, done.stdout, done.stderr
+
+
+def more_pairs_than_a_list_has(program):
+    """Settings whose slopes give more than 2^27 pairs are solved and checked with half of the memory that a list of 2^27 takes, for
+    none is made. Each block of the lower of two benches rests on a square of the upper one, and a single block of ore pays for its
+    square. A certificate that lacks a block of it is refused.
+    """
+    wide, ore, kilobytes = 256, 128 * 257, 1 << 18
+    offsets = [[x, y, 1] for x in range(-32, 32) for y in range(-32, 32)]
+    places = [(x, y, z) for z in range(2) for y in range(wide) for x in range(wide)]
+    files = {
+        "b": "".join(
+            "%d %d %d %d %d 1\n" % (b, *place, 5_000 * (b == ore)) for b, place in enumerate(places)
+        ),
+        "s": "revenue = 0\ncost = 1\nslopes = [%r]\n" % offsets,
+    }
+    words = ["--blocks", "b", "--settings", "s"]
+    with room_with(files) as room:
+        solved = run_within(kilobytes, program, ["solve", *words, "--factor", "1000"], room)
+        (Path(room) / "c").write_bytes(solved[1])
+        lines = solved[1].splitlines(keepends=True)
+        last = max(at for at, line in enumerate(lines) if line.startswith(b"PIT "))
+        (Path(room) / "less").write_bytes(b"".join(lines[:last] + lines[last + 1 :]))
+        checked, refused = (
+            run_within(kilobytes, program, ["check", *words, file], room) for file in ("c", "less")
+        )
+    yield None if solved[0] == 0 and solved[2] == b"" else "more pairs: %r" % (solved[::2],)
+    yield None if checked == (0, b"ACCEPTED 4097 903\n", b"") else "more pairs: %r" % (checked,)
+    yield None if refused[0] == 1 and refused[1].startswith(
+        b"REFUSED NotClosed"
+    ) else "more pairs, a block too few: %r" % (refused,)
+
+
 def first_lines_of_progress(program, words, folder):
     """What a run tells on standard error until its second line; then it is ended."""
     with subprocess.Popen(
@@ -234,6 +278,7 @@ def try_all(program):
             with_closed_outputs,
             with_files_of_a_limit,
             more_pairs_than_may_be,
+            more_pairs_than_a_list_has,
             how_far_the_machine_is,
             the_solver_by_size,
         )

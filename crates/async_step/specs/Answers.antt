@@ -102,7 +102,8 @@ pub record StateStays (net : NetView) (old : StateView) (after : State) (new : S
 abbrev pub Leads : {X : Type 0} → NetView → StateView → State → StateView → Result X StepRefusal → Type 0
 Leads net old after new result = MatchResult result (λ x. GoesTo net old after new) (λ e. StateStays net old after new e)
 
--- the state goes over to this one, and the answer tells what was seen, moved or raised; or the state stays where it can't
+-- the state goes over to this one, and the answer tells what was seen, moved or raised; or the state stays where it
+-- can't
 abbrev pub LeadsTelling : {N : Type 0} → (N → Amount) → NetView → StateView → State → Saw Amount → StateView → Result (Saw N) StepRefusal → Type 0
 LeadsTelling f net old after tells new result = MatchResult result (λ saw. GoesTo net old after new × (saw_as f saw ≡ tells)) (λ e. StateStays net old after new e)
 

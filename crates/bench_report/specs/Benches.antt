@@ -9,7 +9,8 @@ use Rattle.ordered_group.specs.Sets.{worth_in, count_in}
 use Rattle.shells.specs.Series.{SeriesView, shell_at}
 use Rattle.bench_report.specs.declared.bench_row.BenchRow.{BenchRow}
 
--- How many blocks there are, and of each its height, its shell if it has one, its tonnes in millionths and its worth in billionths.
+-- How many blocks there are, and of each its height, its shell if it has one, its tonnes in millionths and its worth in
+-- billionths.
 pub record ReportedBlocks : Type 0 where
   pub blocks : ℕ
   pub height : ℕ → ℤ
@@ -51,7 +52,8 @@ bench_and_shell r = (r.z, r.shell)
 abbrev pub by_bench : ℤ × ℕ → ℤ × ℕ → Ordering
 by_bench x y = ordering_then (int_cmp x.0 y.0) (nat_cmp x.1 y.1)
 
--- The table: each row is that of its bench and shell, no two rows have the same ones, and each block with a shell is in a row.
+-- The table: each row is that of its bench and shell, no two rows have the same ones, and each block with a shell is in
+-- a row.
 pub record IsBenchTable (m : ReportedBlocks) (rows : List BenchRow) : Type 0 where
   pub each : All (IsBenchRow m) rows
   pub rising : IsStrictlySortedBy by_bench (map bench_and_shell rows)

@@ -11,7 +11,8 @@ use Rattle.bench_report.specs.declared.bench_row.BenchRow.{BenchRow}
 abbrev pub header_line : List ℕ
 header_line = codes "z,shell,blocks,tonnes,worth\n"
 
--- the numbers of a row with commas (44) between them, and a line feed (10): tonnes with at most six places, worth with at most nine
+-- the numbers of a row with commas (44) between them, and a line feed (10): tonnes with at most six places, worth with
+-- at most nine
 abbrev pub fields_line : ℤ → ℕ → ℕ → ℤ → ℤ → List ℕ
 fields_line z shell blocks tonnes worth = signed_decimal z ++ 44 ∷ (decimal shell ++ 44 ∷ (decimal blocks ++ 44 ∷ (amount_text 6 tonnes ++ 44 ∷ (amount_text 9 worth ++ 10 ∷ []))))
 

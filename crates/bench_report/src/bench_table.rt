@@ -89,9 +89,10 @@ fn tally(
 
 /// The bench table: a row for each bench and shell that have a block, by bench and then by shell, both ascending.
 ///
-/// A block's bench is its height, and its shell is that of the series; a block without a shell is in no row. `tonnes` is
-/// the place, among the columns that were chosen when the blocks were read, of the column with their tonnes; it must be
-/// below the number of these. `worths` has a worth in billionths for each block, at whatever price the report is made.
+/// A block's bench is its height, and its shell is that of the series; a block without a shell is in no row. `tonnes`
+/// is the place, among the columns that were chosen when the blocks were read, of the column with their tonnes; it must
+/// be below the number of these. `worths` has a worth in billionths for each block, at whatever price the report is
+/// made.
 ///
 /// # Errors
 /// `WrongModel` where the model, the series and the worths aren't of the same number of blocks; then `TooLarge` where

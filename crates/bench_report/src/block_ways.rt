@@ -56,8 +56,8 @@ fn line_of(alloc: Global, series: &Series, b: u32, factor: Factor) -> Result<Str
 }
 
 /// The shell of each block of a series, and which way it goes at a factor, as comma-separated values: a line with the
-/// names of the columns, and a line for each block, ascending. The shell is in thousandths, and empty where the block has
-/// none. The way is 1 for the first of the prices, and empty where the block goes to waste or has no shell.
+/// names of the columns, and a line for each block, ascending. The shell is in thousandths, and empty where the block
+/// has none. The way is 1 for the first of the prices, and empty where the block goes to waste or has no shell.
 ///
 /// # Errors
 /// Memory was refused.

@@ -4,7 +4,7 @@
 //! planner's schedule begins with what each phase has on each bench. [`rows`] gives that table for a
 //! model of blocks, a series of shells and a worth for each block, and [`write_report`] writes it as
 //! comma-separated values, for spreadsheets; [`way_table`] puts the tonnes that go each way to treat a
-//! block behind its rows. [`block_shells_text`] and [`block_ways_text`] say the same block by block.
+//! block after its rows. [`block_shells_text`] and [`block_ways_text`] say the same block by block.
 //!
 //! Stands on `blocks_file` for heights and tonnes, `shells` for the shells, `ordered_group` for the
 //! definitions of sums over sets of blocks, `fixed_worth` for numbers and devices, and the kit's `csv`. Promises

@@ -69,8 +69,8 @@ fn line_of(
     Ok(line)
 }
 
-/// The rows as comma-separated values, with the tonnes of each by way: a line with the names of the columns, and a line for
-/// each row. There is a list of tonnes for each way, with a number for each row.
+/// The rows as comma-separated values, with the tonnes of each by way: a line with the names of the columns, and a line
+/// for each row. There is a list of tonnes for each way, with a number for each row.
 ///
 /// # Errors
 /// Memory was refused.

@@ -55,8 +55,8 @@ fn put_row(alloc: Global, wtr: &mut Writer<Vec<u8>>, row: &BenchRow) -> Result<(
     )
 }
 
-/// The rows as comma-separated values: a line with the names of the columns, and a line for each row. Tonnes print with at
-/// most six places, worths with at most nine.
+/// The rows as comma-separated values: a line with the names of the columns, and a line for each row. Tonnes print with
+/// at most six places, worths with at most nine.
 ///
 /// # Errors
 /// Memory was refused.

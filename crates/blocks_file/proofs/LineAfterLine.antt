@@ -100,7 +100,7 @@ known : (n : ℕ) (seen : List Bool) (before : List Line) (k block : ℕ) → ((
 known n seen before k block m e =
     block_same n (has_record before) (λ b. get_or seen b false) k block (λ b i. sym (m b i)) (nat_le n block) refl ∙ ap (λ (c : ℕ). block_fault c (λ b. get_or seen b false) k block) (sym e)
 
--- The fault of the next line, and of those behind it.
+-- The fault of the next line, and of those after it.
 next_fault : (n : ℕ) (chosen : List ℕ) (all : List Line) (seen : List Bool) (places : List Place) (values : List ℤ) (left next : Left) (k : ℕ) (text : List ℕ) (g : ReadSoFar n chosen all seen places values left) → Next left next k text
     → option_or (record_fault n chosen (has_record g.before) k (fields_of text)) (first_fault n chosen (g.before ++ line k text ∷ []) (numbered_lines next.number next.lines)) ≡ first_fault n chosen [] all
 next_fault n chosen all seen places values left next k text g h = sym (ap (λ (ls : List Line). first_fault n chosen g.before ls) (next_is left next k text h)) ∙ g.fault

@@ -30,7 +30,8 @@ narrowed (Some i) m = record { blocks = m.blocks; places = m.places; columns = s
 abbrev pub IsSmall : BlocksView → ℕ → Type 0
 IsSmall m i = (b : ℕ) → b < m.blocks → unsigned_abs (slice_index_or (slice_index_or m.columns i []) b (pos 0)) ≤ 10 ^ 18
 
--- At most 2^24 blocks, each with a place and a value of each of at most 19 columns. No value is above 10^18 millionths either way.
+-- At most 2^24 blocks, each with a place and a value of each of at most 19 columns. No value is above 10^18 millionths
+-- either way.
 pub record IsModel (n width : ℕ) (places : List Place) (values : List ℤ) : Type 0 where
   pub bound : n ≤ MOST_BLOCKS
   pub few : width ≤ MOST_COLUMNS

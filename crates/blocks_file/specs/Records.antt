@@ -30,7 +30,7 @@ abbrev pub place_of_record : List (List ℕ) → Place
 place_of_record (block ∷ x ∷ y ∷ z ∷ columns) = place_at x y z
 place_of_record _ = place_at [] [] []
 
--- A record's columns: the fields behind its place.
+-- A record's columns: the fields after its place.
 abbrev pub columns_of : List (List ℕ) → List (List ℕ)
 columns_of (block ∷ x ∷ y ∷ z ∷ columns) = columns
 columns_of _ = []
@@ -76,7 +76,7 @@ abbrev pub record_among : List Line → ℕ → List (List ℕ)
 record_among [] b = []
 record_among (l ∷ lines) b = cond (is_record_of b (fields_of l.text)) (fields_of l.text) (record_among lines b)
 
--- The fault of the first faulty line, if any, behind these lines.
+-- The fault of the first faulty line, if any, after these lines.
 abbrev pub first_fault : ℕ → List ℕ → List Line → List Line → Option BlocksFault
 first_fault n chosen before [] = None
 first_fault n chosen before (l ∷ lines) = option_or (record_fault n chosen (has_record before) l.number (fields_of l.text)) (first_fault n chosen (before ++ l ∷ []) lines)

@@ -29,7 +29,7 @@ pub(crate) fn zeros(alloc: Global, count: usize) -> Result<Vec<Micros>, AllocErr
     vec![in alloc; zero; count]
 }
 
-// Puts a row behind so many values.
+// Puts a row after so many values.
 fn put_row(values: &mut [Micros], from: usize, row: &[Micros])
     requires { from + length row.now ≤ length values.old }
     ensures { ArePut from row.now values.old values.new }

@@ -6,10 +6,10 @@
 //!
 //! It stands on `fixed_worth`, which cuts lines and fields and reads the numbers in them.
 //!
-//! Upward it promises that [`read_blocks`] gives exactly what `specs/Denotes` says that the text denotes: as many blocks
-//! as there are records, numbered from 0 on without a gap, each with the place and the values of its own record.
-//! Otherwise it gives the fault of the text that `specs/Records` says, with the number of its line. It takes time that is
-//! linear in the text, and no memory per line.
+//! Upward it promises that [`read_blocks`] gives exactly what `specs/Denotes` says that the text denotes: as many
+//! blocks as there are records, numbered from 0 on without a gap, each with the place and the values of its own record.
+//! Otherwise it gives the fault of the text that `specs/Records` says, with the number of its line. It takes time that
+//! is linear in the text, and no memory per line.
 #![tactic(auto)]
 
 mod block_model;

@@ -42,8 +42,8 @@ fn read_records(alloc: Global, text: &[u8], columns: &[u32], n: u32) -> Result<K
     }
 }
 
-/// The blocks of a text, with their places and at most [`MOST_COLUMNS`] chosen columns. Column 0 is the first field behind `z`; a
-/// column may be chosen twice, and none need be.
+/// The blocks of a text, with their places and at most [`MOST_COLUMNS`] chosen columns. Column 0 is the first field
+/// after `z`; a column may be chosen twice, and none need be.
 ///
 /// A record is `block x y z` and any number of columns. Lines without a field, and those whose first field begins with
 /// `%`, are skipped. The blocks of a text are those from 0 up to the number of its records, each once, in any order.

@@ -1,4 +1,5 @@
--- What turns leave of a board whose steps are all written down, with as many steps as its limit and its room both allow.
+-- What turns leave of a board whose steps are all written down, with as many steps as its limit and its room both
+-- allow.
 use Rattle.fixed_worth.proofs.Common.{◌≡◌, ℕ, ◌<◌, ◌≤◌, min, Bool, true, Option, List, length, ◌++◌, ◌∷◌, [], refl, sym, ap, subst, ◌∙◌, arith, inl, inr, if◌then◌else◌, min-le_left, min-le_right, common_steps}
 use Rattle.closure_net.specs.Network.{NetView, FlowView}
 use Rattle.machine_law.specs.declared.events.Event.{Event}

@@ -24,9 +24,9 @@ pub record AuditView : Type 0 where
 abbrev pub audit_of : RecordView → AuditView
 audit_of r = record { board = r.board; history = r.events; room = r.room }
 
--- The history leads from the opening state of the board's net to the board's state: each event is a step of a run, no ReadExcess of it
--- sees zero, and after each step all numbers fit. So there are as many events as steps. Where the board is stuck, its next step of some
--- block overflows.
+-- The history leads from the opening state of the board's net to the board's state: each event is a step of a run, no
+-- ReadExcess of it sees zero, and after each step all numbers fit. So there are as many events as steps. Where the
+-- board is stuck, its next step of some block overflows.
 pub record IsAudited (audit : AuditView) : Type 0 where
   pub turns : IsTurnBoard audit.board
   pub made : AreTurnsTo audit.board.net audit.history (shown_state audit.board)
@@ -72,8 +72,8 @@ IsAuditEnd old own from steps new Stuck = (IsStuck old.board × (new ≡ old)) �
 IsAuditEnd old own from steps new Limit = IsAtLimit old.board steps × (new ≡ old)
 IsAuditEnd old own from steps new Full = IsFull old steps × (new ≡ old)
 
--- What a turn answers, and what it leaves: as a turn at a board, but for a history that has no room. There are fewer steps than are
--- counted, so the limit is answered where it stands alone.
+-- What a turn answers, and what it leaves: as a turn at a board, but for a history that has no room. There are fewer
+-- steps than are counted, so the limit is answered where it stands alone.
 abbrev pub IsAuditTurn : AuditView → Option ℕ → ℕ → ℕ → AuditView → Turn → Type 0
 IsAuditTurn old own from steps new (Stepped block more) = IsBlockDue old.board own from steps block × HasWritten old block new more
 IsAuditTurn old own from steps new Unserved = MayWrite old steps × IsUnserved old.board own × (new ≡ old)
@@ -81,8 +81,8 @@ IsAuditTurn old own from steps new (Ended end) = IsAuditEnd old own from steps n
 
 -- ---- how turns end a run
 
--- The end of a run that may make as many steps as the limit and the room both allow is told as this one: at the lower of the two, the
--- limit where it is reached, and else the room.
+-- The end of a run that may make as many steps as the limit and the room both allow is told as this one: at the lower
+-- of the two, the limit where it is reached, and else the room.
 abbrev pub IsToldAs : ℕ → ℕ → End → End → Type 0
 IsToldAs made limit Quiet told = told ≡ Quiet
 IsToldAs made limit Stuck told = told ≡ Stuck

@@ -26,13 +26,14 @@ shown_state board = state_of board.state
 abbrev pub blocks_of_board : BoardView → ℕ
 blocks_of_board board = length board.net.worths
 
--- The state is one of a run over the net, so all that holds after any run holds of it; and it is stuck only where a number of a run
--- doesn't fit. Steps of any block may have been made on it.
+-- The state is one of a run over the net, so all that holds after any run holds of it; and it is stuck only where a
+-- number of a run doesn't fit. Steps of any block may have been made on it.
 pub record IsBoard (board : BoardView) : Type 0 where
   pub over : IsStateOf board.net board.state
   pub why : board.stuck ≡ true → SomeRunOverflows board.net
 
--- Turns alone made its steps; and it is stuck only where a number of the state after its own next step of some block doesn't fit.
+-- Turns alone made its steps; and it is stuck only where a number of the state after its own next step of some block
+-- doesn't fit.
 pub record IsTurnBoard (board : BoardView) : Type 0 where
   pub is_board : IsBoard board
   pub made : IsMadeByTurns board.net (shown_state board)

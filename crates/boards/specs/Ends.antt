@@ -29,8 +29,8 @@ HasEnded board limit Stuck = SomeNextOverflows board.net (shown_state board)
 HasEnded board limit Limit = IsCutOffAt board limit
 HasEnded board limit Full = ⊥
 
--- The run goes on over the same net, with at most so many steps: these further turns lead from the state that the board showed to the
--- one that it shows now.
+-- The run goes on over the same net, with at most so many steps: these further turns lead from the state that the board
+-- showed to the one that it shows now.
 pub record GoesOn (old new : BoardView) (limit : ℕ) : Type 0 where
   pub net_is : new.net ≡ old.net
   pub within : (shown_state new).steps ≤ limit

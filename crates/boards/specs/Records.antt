@@ -19,7 +19,8 @@ pub record RecordView : Type 0 where
 abbrev pub record_view : BoardView → List Event → Bool → ℕ → RecordView
 record_view board events records room = record { board = board; events = events; records = records; room = room }
 
--- turns alone made its steps, and where they are written down these are they; there is memory for as many as there is room for
+-- turns alone made its steps, and where they are written down these are they; there is memory for as many as there is
+-- room for
 pub record RecordsTurns (r : RecordView) (capacity : ℕ) : Type 0 where
   pub turns : IsTurnBoard r.board
   pub made : r.records ≡ true → AreTurnsTo r.board.net r.events (shown_state r.board)
@@ -52,7 +53,8 @@ Writes old turn new = new ≡ record old { board = new.board; events = events_af
 abbrev pub written_after : Bool → List Event → List Event → List Event
 written_after records events further = if records then events ++ further else events
 
--- The run goes on over the same net, with at most so many steps, and is written down as before: the further turns, and no others.
+-- The run goes on over the same net, with at most so many steps, and is written down as before: the further turns, and
+-- no others.
 pub record RecordGoesOn (old new : RecordView) (limit : ℕ) : Type 0 where
   pub board : GoesOn old.board new.board limit
   pub events : new.events ≡ written_after old.records old.events board.events

@@ -29,8 +29,8 @@ AreTurnsBetween net s events t = ActiveRun (Fits net) net s events t
 abbrev pub AreTurnsTo : NetView → List Event → State → Type 0
 AreTurnsTo net events s = AreTurnsBetween net (opening net) events s
 
--- The events are a run over the net. The state that they lead to, which is the only one, is quiet; the flow is that of the state, and
--- so a greatest one, in which what the source reaches is closed and tight.
+-- The events are a run over the net. The state that they lead to, which is the only one, is quiet; the flow is that of
+-- the state, and so a greatest one, in which what the source reaches is closed and tight.
 pub record IsReplayedTo (net : NetView) (events : List Event) (flow : FlowView) : Type 0 where
   pub state : State
   pub run : Run net (opening net) events state

@@ -22,8 +22,8 @@ pub record IsOwn (board : BoardView) (own : Option ℕ) (b : ℕ) : Type 0 where
 abbrev pub HasNoOwn : BoardView → Option ℕ → Type 0
 HasNoOwn board own = (b : ℕ) → ¬ (IsOwn board own b)
 
--- The turn serves block b: the worker's own while its operation goes on, and else the first block at or after one, going round, that
--- has excess and no operation.
+-- The turn serves block b: the worker's own while its operation goes on, and else the first block at or after one,
+-- going round, that has excess and no operation.
 abbrev pub IsPicked : BoardView → Option ℕ → ℕ → ℕ → Type 0
 IsPicked board own from b = IsOwn board own b ⊎ (HasNoOwn board own × IsFirstRound (IsWaiting (shown_state board)) (blocks_of_board board) from b)
 

@@ -41,8 +41,8 @@ abbrev pub verdict_told : Told → Verdict
 verdict_told (told.Bound v) = Done
 verdict_told (told.Refused fault) = No
 
--- The answer, and what was written with it: a bound of the texts, or why the certificate proves none. At a fault nothing is written,
--- unless a device failed.
+-- The answer, and what was written with it: a bound of the texts, or why the certificate proves none. At a fault
+-- nothing is written, unless a device failed.
 abbrev pub Bounds : MineTexts → List ℕ → List ℕ → Option (List ℕ) → Option (List ℕ) → Result Verdict BoundFault → Type 0
 Bounds texts periods uses old new (Ok Done) = (v : ℤ) × IsBounded texts periods uses v × Appends old new (bound_line v)
 Bounds texts periods uses old new (Ok No) = (fault : PitFault) × Appends old new (judgement_line (Refused fault))

@@ -19,7 +19,8 @@ use Rattle.bound_engines.specs.declared.bound_judge.Told.TheVariants as told
 abbrev pub priced_by : PeriodsView → List ℕ → ℕ → ℕ → ℕ
 priced_by said prices r t = slice_index prices (r * length said.weights + t)
 
--- The texts denote a mine and its periods, with a multiplier for each resource in each period, and the pairs of blocks that wait.
+-- The texts denote a mine and its periods, with a multiplier for each resource in each period, and the pairs of blocks
+-- that wait.
 pub record DenotePlan (texts : MineTexts) (periods uses : List ℕ) : Type 0 where
   pub count : ℕ
   pub mine : DenoteMine texts count
@@ -37,8 +38,8 @@ pub record DenotePlan (texts : MineTexts) (periods uses : List ℕ) : Type 0 whe
 abbrev pub nodes_mine : (texts : MineTexts) (periods uses : List ℕ) → DenotePlan texts periods uses → Mine
 nodes_mine texts periods uses d = waiting_mine (plan_of texts d.count d.said uses) (priced_by d.said d.prices) d.said.lag d.waits.pairs
 
--- The richest pit of the texts' expanded mine, and all capacities at their multipliers, come to this bound; and no feasible
--- schedule in which blocks wait as they should is worth more.
+-- The richest pit of the texts' expanded mine, and all capacities at their multipliers, come to this bound; and no
+-- feasible schedule in which blocks wait as they should is worth more.
 pub record IsBounded (texts : MineTexts) (periods uses : List ℕ) (bound : ℤ) : Type 0 where
   pub denotes : DenotePlan texts periods uses
   pub best : ℕ → Bool

@@ -37,7 +37,8 @@ abbrev pub compared_verdict : JudgedView → Told → Verdict
 compared_verdict v (told.Bound bound) = cond (is_clear v.broken v.early v.over) Done No
 compared_verdict v (told.Refused fault) = No
 
--- The schedule comes to this, the bound holds, and both were written; and the gap behind them where the schedule is feasible.
+-- The schedule comes to this, the bound holds, and both were written; and the gap after them where the schedule is
+-- feasible.
 pub record WritesBelow (texts : MineTexts) (periods uses text : List ℕ) (feasible : Bool) (old new : Option (List ℕ)) : Type 0 where
   pub v : JudgedView
   pub bound : ℤ

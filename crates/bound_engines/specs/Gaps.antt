@@ -7,8 +7,9 @@ use Rattle.bound_engines.specs.declared.bound_judge.Told.{Told}
 use Rattle.bound_engines.specs.declared.bound_judge.Told.TheVariants as told
 use Rattle.bound_engines.specs.Bounded.{IsBounded}
 
--- This is what a schedule comes to, and no feasible schedule of the same mine over the same periods is worth more than the bound: so
--- neither is this one, where it breaks no pair, digs no block too early and uses nowhere more than there is.
+-- This is what a schedule comes to, and no feasible schedule of the same mine over the same periods is worth more than
+-- the bound: so neither is this one, where it breaks no pair, digs no block too early and uses nowhere more than there
+-- is.
 pub record IsBelow (texts : MineTexts) (periods uses text : List ℕ) (v : JudgedView) (bound : ℤ) : Type 0 where
   pub scheduled : IsScheduled texts periods uses text v
   pub bounded : IsBounded texts periods uses bound

@@ -1,4 +1,5 @@
--- What `solve` over periods answers and writes: a certificate of the expanded mine, or a line that says why there is none.
+-- What `solve` over periods answers and writes: a certificate of the expanded mine, or a line that says why there is
+-- none.
 use Rattle.std.specs.Prelude.{◌⊎◌, ℕ, ℤ, false, List, Option, Result, Ok, Err}
 use Rattle.std.specs.Io.KnownBytes.{Appends, Keeps}
 use Rattle.fixed_worth.specs.Device.{ReceivedPrefix}
@@ -20,7 +21,8 @@ use Rattle.bound_engines.specs.Bounded.{DenotePlan, node_net, nodes_mine}
 
 -- ---- nodes
 
--- what is written for the net of nodes with these pairs and worths; nothing where it can't be made or memory or a thread is wanted
+-- what is written for the net of nodes with these pairs and worths; nothing where it can't be made or memory or a
+-- thread is wanted
 abbrev pub SolvesNodes : Price → RestsView → List ℤ → Method → ℕ → Option (List ℕ) → Option (List ℕ) → Result Verdict BoundFault → Type 0
 SolvesNodes price pairs worths method limit old new (Ok verdict) = IsNet (node_net pairs worths) × SolvesNet false Worth price (node_net pairs worths) method limit old new (Ok verdict)
 SolvesNodes price pairs worths method limit old new (Err (bound.Plan (plan.Engine engine.Device))) = IsNet (node_net pairs worths) × SolvesNet false Worth price (node_net pairs worths) method limit old new (Err engine.Device)
@@ -34,8 +36,8 @@ pub record IsPlanNet (texts : MineTexts) (periods uses : List ℕ) (net : NetVie
   pub is_net : IsNet net
   pub of_nodes : IsNetOf worth_block (nodes_mine texts periods uses denotes) net
 
--- The text is a certificate of the expanded mine: that of a pit and a flow of its net, at the mine's price, in which the flow proves the
--- pit; and no pit of the expanded mine is worth more.
+-- The text is a certificate of the expanded mine: that of a pit and a flow of its net, at the mine's price, in which
+-- the flow proves the pit; and no pit of the expanded mine is worth more.
 pub record IsPlanCertificate (texts : MineTexts) (periods uses text : List ℕ) : Type 0 where
   pub net : NetView
   pub by : IsPlanNet texts periods uses net

@@ -91,7 +91,7 @@ pub(crate) fn told_by<C: CountedRead>(
     }
 }
 
-// The bound of a certificate behind its header, for a mine whose blocks are worth so much.
+// The bound of a certificate after its header, for a mine whose blocks are worth so much.
 fn bound_behind<C: CountedRead>(
     alloc: Global,
     planned: Planned,
@@ -118,8 +118,8 @@ fn bound_behind<C: CountedRead>(
     }
 }
 
-// A mine and its periods, where blocks are worth what they are at the factor that the header of a certificate names. The
-// header is read.
+// A mine and its periods, where blocks are worth what they are at the factor that the header of a certificate names.
+// The header is read.
 pub(crate) fn planned_from<R: Threads + Sync, C: CountedRead>(
     rt: &R,
     alloc: Global,
@@ -201,12 +201,12 @@ fn bound_from<R: Threads + Sync, C: CountedRead>(
     }
 }
 
-/// The bound that the certificate of a device proves for a mine and its periods that were read. Where the blocks have prices they
-/// are worth what these give at the factor that the certificate names. The device is handed back.
+/// The bound that the certificate of a device proves for a mine and its periods that were read. Where the blocks have
+/// prices they are worth what these give at the factor that the certificate names. The device is handed back.
 ///
 /// # Errors
-/// `Nodes` where there are too many or what they are worth doesn't fit; `Certificate` with the first fault of the certificate;
-/// `Device` where a read fails, and `Memory` where memory is refused.
+/// `Nodes` where there are too many or what they are worth doesn't fit; `Certificate` with the first fault of the
+/// certificate; `Device` where a read fails, and `Memory` where memory is refused.
 pub(crate) fn judge_bound<R: Threads + Sync, C: CountedRead>(
     device: C,
     case: Case<'_, R>,

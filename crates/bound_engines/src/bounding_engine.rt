@@ -1,4 +1,5 @@
-//! The engine of `bound`: the bytes of a mine, of its periods and of a certificate in, a bound on the worth of every schedule out.
+//! The engine of `bound`: the bytes of a mine, of its periods and of a certificate in, a bound on the worth of every
+//! schedule out.
 
 ghost use Rattle.std.specs.Prelude.{◌≡◌, ◌+◌, ◌-◌, ◌^◌, ◌<◌, ◌↔◌, IfErr, IfOk, IfSome, IsErrOf, OnOk};
 ghost use Rattle.std.specs.Io.KnownBytes.{Appends};
@@ -60,21 +61,21 @@ fn verdict_of(told: Told) -> Verdict
     }
 }
 
-/// Judges a certificate of the expanded mine of a mine and its periods, where its blocks have prices at the factor that the
-/// certificate names, and writes the bound that it proves.
+/// Judges a certificate of the expanded mine of a mine and its periods, where its blocks have prices at the factor that
+/// the certificate names, and writes the bound that it proves.
 ///
-/// `Done` where it wrote `BOUND v`: what the richest pit of the expanded mine is worth, with all capacities at their multipliers,
-/// comes to v, and no feasible schedule of the mine over these periods is worth more. `No` where it wrote `REFUSED` with a fault of
-/// the pit or its flow.
+/// `Done` where it wrote `BOUND v`: what the richest pit of the expanded mine is worth, with all capacities at their
+/// multipliers, comes to v, and no feasible schedule of the mine over these periods is worth more. `No` where it wrote
+/// `REFUSED` with a fault of the pit or its flow.
 ///
-/// The inputs are read in the order of the arguments, each to its end, except the certificate, which is read up to its first
-/// fault.
+/// The inputs are read in the order of the arguments, each to its end, except the certificate, which is read up to its
+/// first fault.
 ///
 /// # Errors
-/// Those of `mine_inputs::mine_to_check`, then those of the periods, without multipliers `Missing`, and of the blocks that have the
-/// uses; `Nodes` with `TooManyNodes`; those of the certificate's header; `Periods` with `TooLarge`, `Nodes`, and those of the
-/// certificate's other lines. `Memory` where memory is refused, `Device` where a read or a write fails; at every other fault nothing
-/// was written.
+/// Those of `mine_inputs::mine_to_check`, then those of the periods, without multipliers `Missing`, and of the blocks
+/// that have the uses; `Nodes` with `TooManyNodes`; those of the certificate's header; `Periods` with `TooLarge`,
+/// `Nodes`, and those of the certificate's other lines. `Memory` where memory is refused, `Device` where a read or a
+/// write fails; at every other fault nothing was written.
 ///
 /// Each device must have counted fewer than 2^64 - 1 failures, so that one more can be counted.
 pub fn bound_engine<R: Threads + Sync, D: CountedRead, C: CountedRead, W: CountedWrite>(

@@ -44,7 +44,7 @@ pub(crate) struct ComparedCase<'a, R> {
     pub(crate) read: ComparedRead,
 }
 
-// What a schedule comes to, and what a certificate behind its header tells, for a mine whose blocks are worth so much.
+// What a schedule comes to, and what a certificate after its header tells, for a mine whose blocks are worth so much.
 fn compared_behind<C: CountedRead>(
     alloc: Global,
     planned: Planned,
@@ -119,9 +119,9 @@ fn compared_from<R: Threads + Sync, C: CountedRead>(
     }
 }
 
-/// What a schedule that was read comes to, and what the certificate of a device tells of all schedules of that mine and its
-/// periods. Where the blocks have prices they are worth what these give at the factor that the certificate names. The device is
-/// handed back.
+/// What a schedule that was read comes to, and what the certificate of a device tells of all schedules of that mine and
+/// its periods. Where the blocks have prices they are worth what these give at the factor that the certificate names.
+/// The device is handed back.
 ///
 /// # Errors
 /// Those of `judge_bound`.

@@ -1,5 +1,5 @@
-//! Writes what a schedule comes to and, behind it, the bound on all schedules and how far the schedule is below it; or that the
-//! certificate is refused.
+//! Writes what a schedule comes to and, after it, the bound on all schedules and how far the schedule is below it; or
+//! that the certificate is refused.
 
 ghost use Rattle.std.specs.Prelude.{◌≡◌, ◌+◌, ◌-◌, ◌^◌, ◌<◌, ◌++◌, ◌-ℤ◌, ℕ, List, IsTrue, IfOk, IfSome, IsErrOf};
 ghost use Rattle.std.specs.Io.KnownBytes.{Appends};
@@ -56,7 +56,7 @@ fn gap_told(alloc: Global, judged: &Judged, most: i128) -> Result<String, BoundF
     }
 }
 
-// Three texts, one behind another.
+// Three texts, one after another.
 fn joined(
     alloc: Global,
     schedule: &String,
@@ -133,12 +133,12 @@ fn is_written<W: CountedWrite>(text: &String, out: &mut W) -> bool
     write_text(out, text.as_bytes()).is_ok()
 }
 
-/// Writes what a schedule comes to, the bound on all schedules, and the gap where the schedule is feasible; or the line of a
-/// certificate that proves no bound.
+/// Writes what a schedule comes to, the bound on all schedules, and the gap where the schedule is feasible; or the line
+/// of a certificate that proves no bound.
 ///
 /// # Errors
-/// `Nodes` with `TooLarge` where the gap doesn't fit, `Memory` where memory is refused: then nothing was written. `Device` where
-/// a write fails.
+/// `Nodes` with `TooLarge` where the gap doesn't fit, `Memory` where memory is refused: then nothing was written.
+/// `Device` where a write fails.
 pub(crate) fn tell_compared<W: CountedWrite>(
     alloc: Global,
     compared: Compared,

@@ -1,4 +1,5 @@
-//! The engine of `schedule` where a certificate is given: a schedule, and beside it a bound on the worth of every schedule.
+//! The engine of `schedule` where a certificate is given: a schedule, and beside it a bound on the worth of every
+//! schedule.
 
 ghost use Rattle.std.specs.Prelude.{◌≡◌, ◌+◌, ◌-◌, ◌^◌, ◌<◌, IfSome, IsErrOf};
 ghost use Rattle.engines.specs.Judging.{factor_in};
@@ -22,22 +23,22 @@ use std::alloc::Global;
 use std::thread::Threads;
 
 /// Judges a schedule as [`schedule_engine`](schedule_engines::schedule_engine) does, and a certificate as
-/// [`bound_engine`](crate::bound_engine) does, over the same mine and the same periods. Blocks that have prices are worth what
-/// these give at the factor that the certificate names.
+/// [`bound_engine`](crate::bound_engine) does, over the same mine and the same periods. Blocks that have prices are
+/// worth what these give at the factor that the certificate names.
 ///
-/// Where the certificate proves a bound, `BOUND v` comes after the lines of the schedule: no feasible schedule of the mine over
-/// these periods is worth more than v. Where the schedule is feasible, a last line `GAP g` has what v is more than the
-/// schedule's worth: never less than nothing, and then it answers `Done`. For a schedule that isn't feasible no gap is told:
-/// `No`. Where the certificate is refused, the line of that refusal is all that is written: `No`.
+/// Where the certificate proves a bound, `BOUND v` comes after the lines of the schedule: no feasible schedule of the
+/// mine over these periods is worth more than v. Where the schedule is feasible, a last line `GAP g` has what v is more
+/// than the schedule's worth: never less than nothing, and then it answers `Done`. For a schedule that isn't feasible
+/// no gap is told: `No`. Where the certificate is refused, the line of that refusal is all that is written: `No`.
 ///
-/// The inputs are read in the order of the arguments, each to its end, except the certificate, which is read up to its first
-/// fault. Nothing is written before the answer is known.
+/// The inputs are read in the order of the arguments, each to its end, except the certificate, which is read up to its
+/// first fault. Nothing is written before the answer is known.
 ///
 /// # Errors
-/// Those of `mine_inputs::mine_to_check`, then those of the periods, without multipliers `Missing`, of the blocks that have the
-/// uses, and of the schedule; then those of [`bound_engine`](crate::bound_engine) behind its other inputs, and `Nodes` with
-/// `TooLarge` where the gap doesn't fit. `Memory` where memory is refused, `Device` where a read or a write fails; at every
-/// other fault nothing was written.
+/// Those of `mine_inputs::mine_to_check`, then those of the periods, without multipliers `Missing`, of the blocks that
+/// have the uses, and of the schedule; then those of [`bound_engine`](crate::bound_engine) after its other inputs, and
+/// `Nodes` with `TooLarge` where the gap doesn't fit. `Memory` where memory is refused, `Device` where a read or a
+/// write fails; at every other fault nothing was written.
 ///
 /// Each device must have counted fewer than 2^64 - 1 failures, so that one more can be counted.
 pub fn compare_schedule_engine<R: Threads + Sync, D: CountedRead, C: CountedRead, W: CountedWrite>(

@@ -1,11 +1,12 @@
-//! The engines of the expanded mine: one judges a certificate of it, which gives a bound on the worth of every schedule, one
-//! judges a schedule beside that bound, and one makes such a certificate.
+//! The engines of the expanded mine: one judges a certificate of it, which gives a bound on the worth of every
+//! schedule, one judges a schedule beside that bound, and one makes such a certificate.
 //!
-//! Stands on `schedule_engines`, whose readers of periods, uses and schedules it shares, on `mine_inputs` and `engines` for the
-//! texts of a mine and of a certificate and for solvers, on `check_pit`, which judges, and on `expanded_mine`, which makes the
-//! nodes. Promises upward, over the bytes of the texts: what is written as a bound is what the richest pit of the expanded mine is
-//! worth, with all capacities at their prices, and no feasible schedule is worth more; what is written as a gap is what that bound
-//! is more than the worth of a schedule, which is feasible; and what is written as a certificate has a flow that proves such a pit.
+//! Stands on `schedule_engines`, whose readers of periods, uses and schedules it shares, on `mine_inputs` and `engines`
+//! for the texts of a mine and of a certificate and for solvers, on `check_pit`, which judges, and on `expanded_mine`,
+//! which makes the nodes. Promises upward, over the bytes of the texts: what is written as a bound is what the richest
+//! pit of the expanded mine is worth, with all capacities at their prices, and no feasible schedule is worth more; what
+//! is written as a gap is what that bound is more than the worth of a schedule, which is feasible; and what is written
+//! as a certificate has a flow that proves such a pit.
 #![tactic(auto)]
 
 mod bound_fault;

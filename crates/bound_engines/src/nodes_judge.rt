@@ -64,7 +64,8 @@ fn header_fault(fault: StreamFault) -> BoundFault
     }
 }
 
-/// Reads the header of a certificate of so many nodes, in which worth alone is counted, and gives the factor that it names.
+/// Reads the header of a certificate of so many nodes, in which worth alone is counted, and gives the factor that it
+/// names.
 ///
 /// # Errors
 /// `Certificate` with the first fault of the header, where it has another number of nodes or another group, or with
@@ -105,8 +106,8 @@ pub(crate) fn factor_from<C: CountedRead>(
 /// What the certificate proves of nodes with these predecessors and worths, where its header was read.
 ///
 /// # Errors
-/// `Certificate` with the first fault behind the header; `Nodes` where a sum of the net doesn't fit; `Device` where a read fails,
-/// and `Memory` where memory is refused.
+/// `Certificate` with the first fault after the header; `Nodes` where a sum of the net doesn't fit; `Device` where a
+/// read fails, and `Memory` where memory is refused.
 pub(crate) fn judge_nodes<C: CountedRead>(
     alloc: Global,
     pairs: Predecessors,

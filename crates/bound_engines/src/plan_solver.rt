@@ -107,7 +107,7 @@ fn solve_nodes<R: Threads + Wait + Sync, T: Gate + Progress + Outcome, W: Counte
 ///
 /// # Errors
 /// `Periods` with `TooLarge`, `Nodes` where there are too many or what they are worth doesn't fit; then those of
-/// `engines::solve_engine` behind its inputs.
+/// `engines::solve_engine` after its inputs.
 pub(crate) fn solve_plan<R: Threads + Wait + Sync, T: Gate + Progress + Outcome, W: CountedWrite>(
     rt: &R,
     alloc: Global,

@@ -1,4 +1,5 @@
-//! The engine of `solve` over periods: the bytes of a mine and of its periods in, a certificate of its expanded mine out.
+//! The engine of `solve` over periods: the bytes of a mine and of its periods in, a certificate of its expanded mine
+//! out.
 
 ghost use Rattle.std.specs.Prelude.{◌≡◌, ◌+◌, ◌-◌, ◌^◌, ◌<◌, IsErrOf};
 ghost use Rattle.mine_inputs.specs.MineInputs.{ForTexts, CanCount, NoneFailed, OneFailed};
@@ -21,19 +22,21 @@ use std::sync::Wait;
 use std::thread::Threads;
 use workers::Gate;
 
-/// Finds the richest pit of the expanded mine of a mine and its periods, where its blocks have prices at the factor that is asked
-/// for, and writes its certificate of `GROUP WORTH`, which names this factor.
+/// Finds the richest pit of the expanded mine of a mine and its periods, where its blocks have prices at the factor
+/// that is asked for, and writes its certificate of `GROUP WORTH`, which names this factor.
 ///
-/// `Done` where it wrote a certificate that a check of the nodes has accepted: no pit of the expanded mine is worth more than
-/// its pit. `No` where it wrote `UNSETTLED` or `REFUSED TooLarge`, as `engines::solve_engine` does for a mine.
+/// `Done` where it wrote a certificate that a check of the nodes has accepted: no pit of the expanded mine is worth
+/// more than its pit. `No` where it wrote `UNSETTLED` or `REFUSED TooLarge`, as `engines::solve_engine` does for a
+/// mine.
 ///
-/// The inputs are read in the order of the arguments, each to its end, and nothing is written before the answer is known.
+/// The inputs are read in the order of the arguments, each to its end, and nothing is written before the answer is
+/// known.
 ///
 /// # Errors
-/// Those of `mine_inputs::mine_to_check`, then those of the periods, without multipliers `Missing`, and of the blocks that have the
-/// uses; `Periods` with `TooLarge`; `Nodes`. `Memory` where memory is refused, `Thread` where a worker can't be started, `Stranger`
-/// where the board that the workers shared comes back as another's, `Device` where a read or a write fails: the writer has then
-/// received a prefix of the answer, and at every other fault nothing.
+/// Those of `mine_inputs::mine_to_check`, then those of the periods, without multipliers `Missing`, and of the blocks
+/// that have the uses; `Periods` with `TooLarge`; `Nodes`. `Memory` where memory is refused, `Thread` where a worker
+/// can't be started, `Stranger` where the board that the workers shared comes back as another's, `Device` where a read
+/// or a write fails: the writer has then received a prefix of the answer, and at every other fault nothing.
 ///
 /// Each device must have counted fewer than 2^64 - 1 failures, so that one more can be counted.
 pub fn solve_plan_engine<

@@ -33,7 +33,8 @@ carries Pit = false
 carries End = false
 carries _ = true
 
--- What a reader may rely on: where the line is not the last one, its block is one of n; only a REST line has a predecessor; and the count fits the group.
+-- What a reader may rely on: where the line is not the last one, its block is one of n; only a REST line has a
+-- predecessor; and the count fits the group.
 pub record Sound (counts : Bool) (n : ℕ) (line : BodyLine) : Type 0 where
   pub block : is_end line.kind ≡ false → line.block < n
   pub other : is_rest line.kind ≡ false → line.other ≡ 0

@@ -51,7 +51,8 @@ same_lines P p q (l ∷ ls) (m ∷ ms) o r f g =
     let ih = same_lines P (Some l) (Some m) ls ms o.2 r.2 (tail_same P l m ls ms o.2 e f) (tail_same P m l ms ls r.2 (sym e) g) in
     ap (λ (x : BodyLine). x ∷ ls) e ∙ ap (λ (xs : List BodyLine). m ∷ xs) ih
 
--- What a line of a certificate is made of: a block of n, zeros where its kind has no number, and else an amount other than zero.
+-- What a line of a certificate is made of: a block of n, zeros where its kind has no number, and else an amount other
+-- than zero.
 pub record Proper (n : ℕ) (has : ℕ → ℕ → Bool) (l : BodyLine) : Type 0 where
   pub block : l.block < n
   pub last : is_end l.kind ≡ false

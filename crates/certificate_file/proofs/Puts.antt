@@ -9,7 +9,7 @@ use Rattle.certificate_file.specs.declared.body_lines.LineKind.{LineKind}
 use Rattle.certificate_file.specs.declared.body_lines.BodyLine.{BodyLine}
 use Rattle.certificate_file.specs.Written.{spaced_words, line_words, body_text, amount_lines, pit_at, line_at, flow_lines}
 
--- Of all that is to be put, behind what was held at first, this is left.
+-- Of all that is to be put, after what was held at first, this is left.
 pub record Put (a b : Option (List ℕ)) (first now left all : List ℕ) : Type 0 where
   pub done : List ℕ
   pub held : SentOrHeld a b now (first ++ done)
@@ -59,7 +59,7 @@ pub block_failed : (bs : List ℕ) (k : ℕ) (a b c : Option (List ℕ)) (first 
 block_failed bs k a b c first now all h p s =
     put_failed a b c first now (spaced_words (line_words (pit_at (get_or bs k 0))) ++ (10 ∷ [])) (body_text (map pit_at (drop (k + 1) bs))) all (subst (λ (t : List ℕ). Put a b first now t all) (block_written bs k h) p) s
 
--- Three texts, put one behind the other.
+-- Three texts, put one after the other.
 pub three_held : (a b c d : Option (List ℕ)) (p q r s x y z all : List ℕ) → x ++ (y ++ z) ≡ all → SentOrHeld a b q (p ++ x) → SentOrHeld b c r (q ++ y) → SentOrHeld c d s (r ++ z) → SentOrHeld a d s (p ++ all)
 three_held a b c d p q r s x y z all e h i j = grind (arith, common_steps, append_assoc, held_both)
 
@@ -72,7 +72,7 @@ second_failed a b c p q x y z all e h i = grind (arith, common_steps, (append_as
 pub third_failed : (a b c d : Option (List ℕ)) (p q r x y z all : List ℕ) → x ++ (y ++ z) ≡ all → SentOrHeld a b q (p ++ x) → SentOrHeld b c r (q ++ y) → ReceivedPrefix c d (r ++ z) → ReceivedPrefix a d (p ++ all)
 third_failed a b c d p q r x y z all e h i j = grind (arith, common_steps, (append_assoc x y z), (prefix_in_second a c d p r (x ++ y) z (held_both a b c p q r x y h i) j), (held_both a b c p q r x y h i))
 
--- The text of lines that stand behind others.
+-- The text of lines that stand after others.
 pub body_append : (ls ms : List BodyLine) → body_text (ls ++ ms) ≡ body_text ls ++ body_text ms
 body_append [] ms = refl
 body_append (l ∷ ls) ms = ap (λ (t : List ℕ). spaced_words (line_words l) ++ (10 ∷ t)) (body_append ls ms) ∙ sym (append_assoc (spaced_words (line_words l)) (10 ∷ body_text ls) (body_text ms))

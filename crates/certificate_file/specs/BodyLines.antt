@@ -1,4 +1,4 @@
--- The lines of a certificate behind its header.
+-- The lines of a certificate after its header.
 use Rattle.std.specs.Prelude.{ℕ, ℤ, pos, ◌+◌, Bool, true, false, not, cond, List, [], ◌∷◌, Option, Some, None, Result, Ok, Err}
 use Rattle.std.specs.Str.{bytes_eq}
 use Rattle.std.specs.Ordering.{int_eq, nat_cmp, ordering_then, is_lt}
@@ -43,27 +43,27 @@ abbrev pub numbered_line : LineKind → Option ℕ → Option ℕ → Option (�
 numbered_line kind (Some block) (Some other) (Some amount) = Ok (record { kind = kind; block = block; other = other; worth = amount.0; count = amount.1 })
 numbered_line kind _ _ _ = Err Number
 
--- the line PIT, by the words behind its key: a block
+-- the line PIT, by the words after its key: a block
 abbrev pub pit_line : ℕ → List (List ℕ) → Result BodyLine LineFault
 pit_line n (b ∷ []) = numbered_line Pit (number_below n b) (Some 0) (Some (pos 0, pos 0))
 pit_line n _ = Err Text
 
--- a line SOURCE or SINK, by the words behind its key: a block and an amount
+-- a line SOURCE or SINK, by the words after its key: a block and an amount
 abbrev pub block_line : Bool → ℕ → LineKind → List (List ℕ) → Result BodyLine LineFault
 block_line counts n kind (b ∷ w ∷ c ∷ []) = numbered_line kind (number_below n b) (Some 0) (amount_in counts w c)
 block_line counts n kind _ = Err Text
 
--- a line REST, by the words behind its key: a block, the predecessor that it rests on, and an amount
+-- a line REST, by the words after its key: a block, the predecessor that it rests on, and an amount
 abbrev pub rest_line : Bool → ℕ → List (List ℕ) → Result BodyLine LineFault
 rest_line counts n (b ∷ p ∷ w ∷ c ∷ []) = numbered_line Rest (number_below n b) (number_below n p) (amount_in counts w c)
 rest_line counts n _ = Err Text
 
--- the line END, behind whose key there is nothing
+-- the line END, after whose key there is nothing
 abbrev pub end_line : List (List ℕ) → Result BodyLine LineFault
 end_line [] = numbered_line End (Some 0) (Some 0) (Some (pos 0, pos 0))
 end_line (w ∷ ws) = Err Text
 
--- the line of a kind, by the words behind its key
+-- the line of a kind, by the words after its key
 abbrev pub line_with : Bool → ℕ → Option LineKind → List (List ℕ) → Result BodyLine LineFault
 line_with counts n None words = Err Text
 line_with counts n (Some Pit) words = pit_line n words
@@ -98,7 +98,7 @@ is_end _ = false
 abbrev pub is_above : BodyLine → BodyLine → Bool
 is_above previous line = is_lt (ordering_then (nat_cmp (rank previous.kind) (rank line.kind)) (ordering_then (nat_cmp previous.block line.block) (nat_cmp previous.other line.other)))
 
--- a line that may stand behind another, or first
+-- a line that may stand after another, or first
 abbrev pub may_follow : Option BodyLine → BodyLine → Bool
 may_follow None line = true
 may_follow (Some previous) line = is_above previous line
@@ -116,7 +116,7 @@ in_order previous k line = cond (may_follow previous line) (Ok line) (Err (fault
 abbrev pub in_model : (ℕ → ℕ → Bool) → ℕ → BodyLine → Result BodyLine CertFault
 in_model has k line = cond (is_of_model has line.kind line) (Ok line) (Err (fault.UnknownPair k))
 
--- the line that piece k is, behind another one
+-- the line that piece k is, after another one
 abbrev pub line_behind : Bool → ℕ → Option BodyLine → ℕ → Piece → Result BodyLine CertFault
 line_behind counts n previous k p = do
   line ← read_line (line_of counts n) k p
@@ -128,22 +128,22 @@ next_line counts n has previous k p = do
   line ← line_behind counts n previous k p
   in_model has k line
 
--- nothing may stand behind the last line
+-- nothing may stand after the last line
 abbrev pub end_fault : ℕ → List Piece → Option CertFault
 end_fault k [] = None
 end_fault k (p ∷ ps) = Some (fault.Text (k + 1))
 
--- the fault of a line, or else what is wrong behind it
+-- the fault of a line, or else what is wrong after it
 abbrev pub fault_from : Option CertFault → (BodyLine → Option CertFault) → Result BodyLine CertFault → Option CertFault
 fault_from at_end behind (Err e) = Some e
 fault_from at_end behind (Ok line) = cond (is_end line.kind) at_end (behind line)
 
--- the fault of the first faulty line behind line k, which said what is previous
+-- the fault of the first faulty line after line k, which said what is previous
 abbrev pub body_fault : Bool → ℕ → (ℕ → ℕ → Bool) → Option BodyLine → ℕ → List Piece → Option CertFault
 body_fault counts n has previous k [] = Some fault.Truncated
 body_fault counts n has previous k (p ∷ ps) = fault_from (end_fault (k + 1) ps) (λ line. body_fault counts n has (Some line) (k + 1) ps) (next_line counts n has previous (k + 1) p)
 
--- a line and those behind it, where it is read and is not END
+-- a line and those after it, where it is read and is not END
 abbrev pub lines_from : List BodyLine → Result BodyLine LineFault → List BodyLine
 lines_from behind (Err e) = []
 lines_from behind (Ok line) = cond (is_end line.kind) [] (line ∷ behind)

@@ -18,7 +18,7 @@ use Rattle.certificate_file.specs.BodyLines.{body_fault, lines_of_pieces}
 use Rattle.certificate_file.specs.Written.{header_with, text_of}
 use Rattle.fixed_worth.specs.FaultText.{at_line}
 
--- the lines behind the header
+-- the lines after the header
 abbrev pub body_of : List ℕ → List Piece
 body_of text = drop 4 (pieces_of text)
 
@@ -26,7 +26,7 @@ body_of text = drop 4 (pieces_of text)
 abbrev pub wanted_for : ℕ → Group → Option Wanted
 wanted_for n name = Some (record { blocks = n; group = name })
 
--- the fault of the header, or else of the lines behind it
+-- the fault of the header, or else of the lines after it
 abbrev pub fault_behind : Bool → ℕ → List (ℕ × ℕ) → List Piece → Result Header CertFault → Option CertFault
 fault_behind counts n pairs body (Err e) = Some e
 fault_behind counts n pairs body (Ok header) = body_fault counts n (has_pair pairs) None 4 body
@@ -95,7 +95,7 @@ pub record Denotes (n : ℕ) (pairs : List (ℕ × ℕ)) (lines : List BodyLine)
   pub rest : (k : ℕ) → k < length pairs → amount_at flow.rest k ≡ given_amount (gives_rest (slice_index_or pairs k (0, 0))) zero_amount lines
   pub sink : (b : ℕ) → b < n → amount_at flow.sink b ≡ given_amount (gives_sink b) zero_amount lines
 
--- the lines of a text behind its header, before END
+-- the lines of a text after its header, before END
 abbrev pub lines_of_text : Bool → ℕ → List ℕ → List BodyLine
 lines_of_text counts n text = lines_of_pieces counts n (body_of text)
 

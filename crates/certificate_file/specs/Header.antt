@@ -70,8 +70,8 @@ abbrev pub mill_said : Option (List ℕ) → Result Price LineFault
 mill_said None = Err Text
 mill_said (Some word) = or_number (mill_of (number_below (MOST_FACTOR + 1) word))
 
--- the price of a line: PRICE OBJECTIVE, or PRICE k with a factor from 0 to 10,000; in a text of the second version PRICE MILL k and
--- nothing else
+-- the price of a line: PRICE OBJECTIVE, or PRICE k with a factor from 0 to 10,000; in a text of the second version
+-- PRICE MILL k and nothing else
 abbrev pub price_in : Version → List ℕ → Result Price LineFault
 price_in One text = price_said (value_behind (codes "PRICE") (words_of text))
 price_in Two text = mill_said (value_behind_both (codes "PRICE") (codes "MILL") (words_of text))

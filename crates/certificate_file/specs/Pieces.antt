@@ -8,7 +8,7 @@ use Rattle.certificate_file.specs.declared.cert_fault.CertFault.TheVariants as f
 use Rattle.certificate_file.specs.declared.cert_fault.LineFault.{LineFault}
 use Rattle.certificate_file.specs.declared.cert_fault.LineFault.TheVariants.{Text, Number}
 
--- a piece of a text: what stands before a line feed or behind the last one, and whether a line feed ends it
+-- a piece of a text: what stands before a line feed or after the last one, and whether a line feed ends it
 pub record Piece : Type 0 where
   pub text : List ℕ
   pub ended : Bool
@@ -18,7 +18,7 @@ abbrev pub onto_piece : ℕ → List Piece → List Piece
 onto_piece b [] = record { text = b ∷ []; ended = false } ∷ []
 onto_piece b (p ∷ ps) = record { text = b ∷ p.text; ended = p.ended } ∷ ps
 
--- the pieces of a text; behind a last line feed there is none
+-- the pieces of a text; after a last line feed there is none
 abbrev pub pieces_of : List ℕ → List Piece
 pieces_of [] = []
 pieces_of (b ∷ bs) = cond (b == 10) (record { text = []; ended = true } ∷ pieces_of bs) (onto_piece b (pieces_of bs))

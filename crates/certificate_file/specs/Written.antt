@@ -20,7 +20,7 @@ spaced_words [] = []
 spaced_words (w ∷ []) = w
 spaced_words (w ∷ v ∷ ws) = w ++ (32 ∷ spaced_words (v ∷ ws))
 
--- lines of words, with a line feed behind each
+-- lines of words, with a line feed after each
 abbrev pub lines_text : List (List (List ℕ)) → List ℕ
 lines_text [] = []
 lines_text (words ∷ lines) = spaced_words words ++ (10 ∷ lines_text lines)

@@ -1,4 +1,4 @@
-//! Reads one line behind a certificate's header: its kind, blocks and amount, or what is wrong with it. Decides which
+//! Reads one line after a certificate's header: its kind, blocks and amount, or what is wrong with it. Decides which
 //! lines may follow one another.
 
 ghost use Rattle.std.specs.Prelude.{◌≡◌, ◌+◌, true, Err, MatchResult};
@@ -20,7 +20,7 @@ const SINK: &[u8] = b"SINK";
 
 const END: &[u8] = b"END";
 
-/// The kinds of lines behind the header, in the order in which they stand.
+/// The kinds of lines after the header, in the order in which they stand.
 #[derive(Clone, Copy, PartialEq, Eq, PartialOrd, Ord)]
 pub enum LineKind {
     /// `PIT b`: block b is in the pit.
@@ -35,7 +35,7 @@ pub enum LineKind {
     End,
 }
 
-/// A line behind the header with its numbers; those that its kind doesn't have are 0.
+/// A line after the header with its numbers; those that its kind doesn't have are 0.
 #[derive(Clone, Copy)]
 pub struct BodyLine {
     pub kind: LineKind,
@@ -43,8 +43,8 @@ pub struct BodyLine {
     pub block: u32,
     /// The predecessor that a REST line names.
     pub other: u32,
-    /// The first number of the amount: worth in billionths. With `GROUP SCALED`, in a model of n blocks, a block of worth v
-    /// makes v times (n + 1), less 1.
+    /// The first number of the amount: worth in billionths. With `GROUP SCALED`, in a model of n blocks, a block of
+    /// worth v makes v times (n + 1), less 1.
     pub worth: i128,
     /// The second number of the amount, which is 0 but with `GROUP PAIR`: each block makes -1.
     pub count: i128,
@@ -182,7 +182,7 @@ fn is_above(previous: &BodyLine, line: &BodyLine) -> bool
     (previous.kind, previous.block, previous.other) < (line.kind, line.block, line.other)
 }
 
-/// Whether a line may stand behind another one, or first.
+/// Whether a line may stand after another one, or first.
 pub fn may_follow(previous: Option<BodyLine>, line: &BodyLine) -> bool
     ensures { result ≡ spec.may_follow previous line.now }
 {

@@ -1,4 +1,4 @@
-//! Reads the lines behind a certificate's header up to `END`, and adds each to the pit and the flow, or gives the
+//! Reads the lines after a certificate's header up to `END`, and adds each to the pit and the flow, or gives the
 //! first fault.
 
 ghost use Rattle.std.specs.Prelude.{◌≡◌, length, Some, None, MatchResult};
@@ -21,7 +21,7 @@ pub fn is_end(kind: LineKind) -> bool
     matches!(kind, LineKind::End)
 }
 
-// Nothing may stand behind the last line.
+// Nothing may stand after the last line.
 fn read_end(pieces: &Pieces) -> Result<(), CertFault>
     ensures { MatchResult result
         (λ _. spec.end_fault pieces.now.number pieces.now.pieces ≡ None)
@@ -34,7 +34,7 @@ fn read_end(pieces: &Pieces) -> Result<(), CertFault>
     }
 }
 
-/// Adds what the lines say, up to END, behind which nothing may stand.
+/// Adds what the lines say, up to END, after which nothing may stand.
 pub fn read_body<G: OrderedGroup>(
     pieces: &mut Pieces,
     rests: &Rests,

@@ -1,13 +1,13 @@
 //! Certificates: a pit and a flow as a text, how it is read, and how it is written.
 //!
-//! Stands on `fixed_worth` for words and numbers, on `ordered_group` for amounts, and on `closure_net` and `prec_file` for
-//! pits, flows and pairs. Promises upward:
+//! Stands on `fixed_worth` for words and numbers, on `ordered_group` for amounts, and on `closure_net` and `prec_file`
+//! for pits, flows and pairs. Promises upward:
 //!
 //! - `read_certificate` accepts exactly the texts of the grammar, with the pit and the flow that their lines say, and
 //!   otherwise names the first faulty line. `reading::header` reads the first four lines alone.
 //! - Each certificate has one text, which `write_certificate` writes, and which is read back as that certificate.
-//! - What is read of one line (`version_in` to `group_in`, `line_of`, `may_follow`) is the same whoever cuts the text into
-//!   lines: a reader of a whole text, or one of a device.
+//! - What is read of one line (`version_in` to `group_in`, `line_of`, `may_follow`) is the same whoever cuts the text
+//!   into lines: a reader of a whole text, or one of a device.
 #![tactic(auto)]
 
 mod body_lines;

@@ -10,7 +10,7 @@ use crate::header::Header;
 use crate::header_lines::read_header;
 use crate::piece_reader::Pieces;
 
-/// Reads the header of a certificate: its first four lines. What stands behind them isn't looked at.
+/// Reads the header of a certificate: its first four lines. What stands after them isn't looked at.
 pub fn header(text: &[u8]) -> Result<Header, CertFault>
     ensures { result ≡ header_of (pieces_of text.now) }
 {

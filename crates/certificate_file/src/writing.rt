@@ -263,7 +263,7 @@ fn put_flow<G: OrderedGroup, W: CountedWrite>(
     put_amounts(page, out, LineKind::Sink, rests, flow.sink())
 }
 
-// Everything behind the header.
+// Everything after the header.
 fn put_body<G: OrderedGroup, W: CountedWrite>(
     page: &mut Page,
     out: &mut W,
@@ -287,9 +287,9 @@ fn put_body<G: OrderedGroup, W: CountedWrite>(
     page.put(out, b"END\n")
 }
 
-/// Writes a certificate. It takes no memory. Where its number of blocks is the model's, its factor is at most 10,000 and
-/// its pit has blocks of the model alone, [`crate::read_certificate`] reads it back, for the same blocks and pairs. The flow
-/// has an amount for each of these blocks and pairs.
+/// Writes a certificate. It takes no memory. Where its number of blocks is the model's, its factor is at most 10,000
+/// and its pit has blocks of the model alone, [`crate::read_certificate`] reads it back, for the same blocks and pairs.
+/// The flow has an amount for each of these blocks and pairs.
 ///
 /// # Errors
 /// `Device` at the first write that fails: the writer has then received a prefix of the text.

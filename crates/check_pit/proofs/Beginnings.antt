@@ -84,7 +84,7 @@ takes_end counts n pairs body held number j previous ls line b h ok e =
           ∙ append-nil ls;
     }
 
--- Nothing is left behind the last line.
+-- Nothing is left after the last line.
 pub ends_whole : (counts : Bool) (n : ℕ) (pairs : List (ℕ × ℕ)) (body left : List ℕ) (number : ℕ) (ls : List BodyLine) → Ends counts n pairs body number left ls → left ≡ [] → (body_fault counts n (has_pair pairs) None 4 (pieces_of body) ≡ None) × (lines_of_pieces counts n (pieces_of body) ≡ ls)
 ends_whole counts n pairs body left number ls e none = grind (arith, common_steps, (append-nil body))
 
@@ -97,6 +97,6 @@ pub ends_more : (counts : Bool) (n : ℕ) (pairs : List (ℕ × ℕ)) (body left
     → body_fault counts n (has_pair pairs) None 4 (pieces_of (body ++ future)) ≡ Some (fault.Text (number + 1))
 ends_more counts n pairs body left number ls e h future = e.fault future ∙ more_pieces left future number h
 
--- A piece that is no line says nothing; and of one that is, the text goes on behind it.
+-- A piece that is no line says nothing; and of one that is, the text goes on after it.
 pub no_line_next : (counts : Bool) (n : ℕ) (has : ℕ → ℕ → Bool) (previous : Option BodyLine) (k : ℕ) (p : Piece) (e : CertFault) → piece_fault k p ≡ Some e → next_line counts n has previous k p ≡ Err e
 no_line_next counts n has previous k p e h = rw h refl

@@ -18,7 +18,7 @@ first_front : (ls more : List BodyLine) → AllPits ls → first_pits (ls ++ mor
 first_front [] more a = refl
 first_front (l ∷ ls) more a = rw a.0 (ap (λ (xs : List BodyLine). l ∷ xs) (first_front ls more a.1))
 
--- They are the first ones where another line stands behind them, or none does.
+-- They are the first ones where another line stands after them, or none does.
 pub first_behind : (ls more : List BodyLine) (l : BodyLine) → AllPits ls → is_pit l.kind ≡ false → first_pits ((ls ++ l ∷ []) ++ more) ≡ ls
 first_behind ls more l a h = grind (arith, common_steps, append_assoc, first_front, append-nil)
 

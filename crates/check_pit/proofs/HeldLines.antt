@@ -58,7 +58,7 @@ pub read_without_feed : {R : Type 0} (start now later : LineView R) (seen : List
     → seen ≡ now.held → o ≡ position (λ b. eqb b 10) seen → o ≡ None → (count : ℕ) → position (λ b. eqb b 10) start.held ≡ Some count → later ≡ start
 read_without_feed start now later seen o still same e none count found = grind (arith, common_steps)
 
--- what is held begins with a line, and behind it stands the rest
+-- what is held begins with a line, and after it stands the rest
 first_of_held : (bs future : List ℕ) (j : ℕ) → j < length bs → eqb (get_or bs j 0) 10 ≡ true → ((i : ℕ) → i < j → eqb (get_or bs i 0) 10 ≡ false)
     → pieces_of (bs ++ future) ≡ record { text = take j bs; ended = true } ∷ pieces_of (drop (suc j) bs ++ future)
 first_of_held [] future j h e f = absurd (omega arith)

@@ -13,7 +13,7 @@ use Rattle.certificate_file.specs.Certificate.{amount_of}
 use Rattle.check_pit.specs.Prelude.{keeps_by, RoomView, MayPut, WithLine, SumOverflowsWith, RefusedWhere, Puts, PutsLine, RefusesLine, with_balance, with_left}
 use Rattle.check_pit.proofs.RoomSums.{puts_line, refuses_line, with_sink}
 
--- ---- space for a block that stands behind those before it
+-- ---- space for a block that stands after those before it
 
 pub block_space : (net : NetView) (room : RoomView) (line : BodyLine) → line.kind ≡ Pit → MayPut net room line → length room.blocks < room.space
 block_space net room line is may = grind (arith, common_steps, length-append, get_or-append_seam, apart_by_places)
@@ -47,7 +47,7 @@ pub sink_put : {U : Type 0} (net : NetView) (l : BodyLine) (before later : RoomV
 sink_put net l before later x (Ok u) is h s e k w = (with_sink net l before later x is (omega (arith, h, s)) e w, k)
 sink_put net l before later x (Err d) is h s e k w = subst (λ (f : PitFault). RefusedWhere net l (SumOverflowsWith net before l) f) (sym w.0) (grind (arith, common_steps, fits_same, sink_here))
 
--- ---- a line behind those whose sums the room has
+-- ---- a line after those whose sums the room has
 
 pub puts_ok : {U : Type 0} (K : Type 0) (net : NetView) (l : BodyLine) (before later : RoomView) (r : Result U PitFault) → MatchResult r (λ _. WithLine net l before later × K) (λ e. RefusedWhere net l (SumOverflowsWith net before l) e) → IfOk r (λ _. PutsLine net l before later)
 puts_ok K net l before later (Ok u) h = puts_line net l before later h.0

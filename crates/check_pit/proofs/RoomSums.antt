@@ -38,7 +38,7 @@ worth_more ws (b ∷ bs) cs = ap (plus (amount_at ws b)) (worth_more ws bs cs) �
 worth_with : (ws : List Amount) (ls : List BodyLine) (l : BodyLine) → worth_of_blocks ws (pit_of (ls ++ l ∷ [])) ≡ plus (worth_of_blocks ws (pit_of ls)) (worth_of_blocks ws (block_if_pit l.kind l.block []))
 worth_with ws ls l = ap (worth_of_blocks ws) (pit_more ls l) ∙ worth_more ws (pit_of ls) (block_if_pit l.kind l.block [])
 
--- ---- a line that is put, and one that is refused, behind the lines whose sums the room has
+-- ---- a line that is put, and one that is refused, after the lines whose sums the room has
 
 pub puts_line : (net : NetView) (l : BodyLine) (before later : RoomView) → WithLine net l before later → PutsLine net l before later
 puts_line net l before later w = grind (arith, common_steps, balance_more, pit_more, worth_with, left_more)

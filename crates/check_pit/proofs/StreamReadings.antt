@@ -93,7 +93,7 @@ reading_lacks remaining counts net start now later previous bytes ls e r l = gri
 pub lines_begin : {R : Type 0} (remaining : R → Option (List ℕ)) (counts : Bool) (net : NetView) (start now : LineView R) (previous : Option BodyLine) (bytes : List ℕ) (ls : List BodyLine) → Reading remaining counts net start now previous bytes ls → LinesBegin counts net (start.held ++ bytes) ls
 lines_begin remaining counts net start now previous bytes ls r = λ future. (lines_of_pieces counts (length net.worths) (pieces_of (now.held ++ future)), r.begins.lines future)
 
--- Nothing stands behind END.
+-- Nothing stands after END.
 pub ended_whole : {R : Type 0} (remaining : R → Option (List ℕ)) (counts : Bool) (net : NetView) (start now : LineView R) (bytes : List ℕ) (ls : List BodyLine) → Ended remaining counts net start now bytes ls → IsAtEnd (remaining now.from) → now.held ≡ [] → now.taken ≤ MOST_BYTES
     → IsWholeBody (remaining now.from) now.taken counts net (start.held ++ bytes) × (lines_of_body counts net (start.held ++ bytes) ≡ ls)
 ended_whole remaining counts net start now bytes ls r e h t = grind (arith, common_steps, ends_whole)

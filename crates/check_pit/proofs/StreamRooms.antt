@@ -104,7 +104,7 @@ line_refused remaining counts net start now later previous bytes ls line before 
       refused_as (remaining later.from) later.taken counts net (start.held ++ (bytes ++ t.0)) ls line e (lines_begin remaining counts net start later (Some line) (bytes ++ t.0) (ls ++ line ∷ []) q) s.limits (h ls (sums_closed net previous line.kind before mid ls s c)),
     )
 
--- The pit isn't closed: behind a line that is none of its own, no other names a block.
+-- The pit isn't closed: after a line that is none of its own, no other names a block.
 no_pits : (bs : List ℕ) → ((i : ℕ) → i < length bs → ⊥) → bs ≡ []
 no_pits bs h = grind (arith, common_steps)
 

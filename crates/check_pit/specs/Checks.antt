@@ -85,8 +85,9 @@ FaultHolds net flow pit (Unbalanced b) = (b < length net.worths) × ¬ (IsBalanc
 FaultHolds net flow pit NotTight = ¬ (IsTight net flow (holds_of pit))
 FaultHolds net flow pit TooLarge = SomeSumOverflows net flow pit
 
--- Nothing fails that is looked at before the fault, in this order: the sizes; the pairs; the signs; the blocks' capacities;
--- for each block the sums of its balance, and then the balance; the other sums; and whether the pit is tight.
+-- Nothing fails that is looked at before the fault, in this order: the sizes; the pairs; the signs; the blocks'
+-- capacities; for each block the sums of its balance, and then the balance; the other sums; and whether the pit is
+-- tight.
 abbrev pub NoneBefore : NetView → FlowView → List ℕ → PitFault → Type 0
 NoneBefore net flow pit WrongSize = Unit {0}
 NoneBefore net flow pit (NotClosed b p) = Sizes net flow pit × StayBefore net.pairs (holds_of pit) (b, p)

@@ -16,7 +16,8 @@ EndOverflows start end f b m = (k : ℕ) × (k < m) × (end k ≡ b) × ¬ (Fits
 abbrev pub BalanceFits : NetView → FlowView → ℕ → Type 0
 BalanceFits net flow b = EndFits (amount_at flow.source b) (to_at net.pairs) (amount_at flow.rest) b (length net.pairs) × EndFits (amount_at flow.sink b) (from_at net.pairs) (amount_at flow.rest) b (length net.pairs)
 
--- what enters b from the source and over pairs, or what leaves it to the sink and over pairs: some sum on the way doesn't fit
+-- what enters b from the source and over pairs, or what leaves it to the sink and over pairs: some sum on the way
+-- doesn't fit
 abbrev pub BalanceOverflows : NetView → FlowView → ℕ → Type 0
 BalanceOverflows net flow b = EndOverflows (amount_at flow.source b) (to_at net.pairs) (amount_at flow.rest) b (length net.pairs) ⊎ EndOverflows (amount_at flow.sink b) (from_at net.pairs) (amount_at flow.rest) b (length net.pairs)
 

@@ -15,6 +15,6 @@ pub record LinesTell (net : NetView) (ls : List BodyLine) : Type 0 where
   pub tight : IsTight net (flow_of (length net.worths) net.pairs ls) (holds_of (pit_of ls)) ↔ (worth_of_blocks net.worths (pit_of ls) ≡ residual_after net.worths ls)
   pub limits : KeepLimits net.worths ls → NoneBelowZero (flow_of (length net.worths) net.pairs ls) × AllWithin net (flow_of (length net.worths) net.pairs ls)
 
--- so it is for the lines behind the header of every text without a fault
+-- so it is for the lines after the header of every text without a fault
 abbrev pub LineSumsTell : Type 0
 LineSumsTell = (counts : Bool) (net : NetView) (number : ℕ) (ps : List Piece) → IsRests (record { blocks = length net.worths; pairs = net.pairs }) → body_fault counts (length net.worths) (has_pair net.pairs) None number ps ≡ None → LinesTell net (lines_of_pieces counts (length net.worths) ps)

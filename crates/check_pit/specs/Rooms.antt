@@ -12,8 +12,8 @@ use Rattle.certificate_file.specs.Certificate.{block_if_pit, pit_of, amount_of}
 use Rattle.check_pit.specs.LineSums.{brings_by, balance_of, source_by, worth_of_blocks, residual_after, flow_of, keeps_by, SomeLineSumOverflows}
 use Rattle.check_pit.specs.LineLaws.{LinesTell}
 
--- a balance for each block; the blocks of the pit so far, how many there is space for, and whether they are a pit already,
--- to which no block comes any more; what they are worth; and what the source could still give
+-- a balance for each block; the blocks of the pit so far, how many there is space for, and whether they are a pit
+-- already, to which no block comes any more; what they are worth; and what the source could still give
 pub record RoomView : Type 0 where
   pub balances : List Amount
   pub blocks : List ℕ
@@ -77,15 +77,15 @@ IsNegative Pit x = ⊥
 IsNegative End x = ⊥
 IsNegative _ x = ¬ (AtMost zero_amount x)
 
--- the amount of a line of this kind is not negative, and more than a block of this worth gets from the source or gives the
--- sink
+-- the amount of a line of this kind is not negative, and more than a block of this worth gets from the source or gives
+-- the sink
 abbrev pub IsOverLimit : LineKind → Amount → Amount → Type 0
 IsOverLimit Source worth x = AtMost zero_amount x × ¬ (AtMost x (positive worth))
 IsOverLimit Sink worth x = AtMost zero_amount x × ¬ (AtMost x (negative worth))
 IsOverLimit _ worth x = ⊥
 
--- Why a line is refused, in this order: its amount is negative; it is more than its block may get or give; or a sum, as it
--- is with the line, doesn't fit.
+-- Why a line is refused, in this order: its amount is negative; it is more than its block may get or give; or a sum, as
+-- it is with the line, doesn't fit.
 abbrev pub RefusedWhere : NetView → BodyLine → Type 0 → PitFault → Type 0
 RefusedWhere net l overflows Negative = IsNegative l.kind (amount_of l)
 RefusedWhere net l overflows (OverCapacity b) = (b ≡ l.block) × IsOverLimit l.kind (amount_at net.worths l.block) (amount_of l)

@@ -2,7 +2,7 @@
 use Rattle.std.specs.Prelude.{◌≡◌, ℕ, List, ◌++◌, length, Option}
 use Rattle.std.specs.Io.KnownBytes.{Consumes}
 
--- n bytes that the reader gave stand behind what was held
+-- n bytes that the reader gave stand after what was held
 pub record AppendsRead (remaining left : Option (List ℕ)) (before later : List ℕ) (n : ℕ) : Type 0 where
   pub bytes : List ℕ
   pub given : Consumes remaining left bytes

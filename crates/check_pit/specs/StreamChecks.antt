@@ -1,4 +1,4 @@
--- What a check of a stream finds: the lines behind the header say a pit and a flow, and the flow proves the pit.
+-- What a check of a stream finds: the lines after the header say a pit and a flow, and the flow proves the pit.
 use Rattle.std.specs.Prelude.{◌≡◌, ℕ, ◌+◌, ◌<◌, ◌≤◌, Bool, true, false, not, cond, List, [], ◌∷◌, ◌++◌, length, Option, Some, None}
 use Rattle.std.specs.Io.KnownBytes.{Consumes, IsAtEnd}
 use Rattle.ordered_group.specs.Prelude.{zero_amount, amount_at}
@@ -43,7 +43,7 @@ pub record ReadsOn {R : Type 0} (remaining : R → Option (List ℕ)) (before la
   pub given : Consumes (remaining before.from) (remaining later.from) bytes
   pub taken : later.taken ≡ before.taken + length bytes
 
--- what is wrong with the body of a certificate for a net, which is what stands behind the header
+-- what is wrong with the body of a certificate for a net, which is what stands after the header
 abbrev pub fault_of_body : Bool → NetView → List ℕ → Option CertFault
 fault_of_body counts net body = body_fault counts (length net.worths) (has_pair net.pairs) None 4 (pieces_of body)
 
@@ -74,8 +74,9 @@ pub record HasPit (counts : Bool) (net : NetView) (body pit : List ℕ) : Type 0
   pub first : (future : List ℕ) → pit_of (first_pits (lines_of_body counts net (body ++ future))) ≡ pit
   pub all : (future : List ℕ) → fault_of_body counts net (body ++ future) ≡ None → pit_of (lines_of_body counts net (body ++ future)) ≡ pit
 
--- Why a certificate doesn't prove its pit. An amount is negative or too large, the first such one, or a sum with it doesn't
--- fit; the pit of the PIT lines is not closed, whatever the other lines say; or all lines were read, and the flow is not balanced, or the pit not tight by it.
+-- Why a certificate doesn't prove its pit. An amount is negative or too large, the first such one, or a sum with it
+-- doesn't fit; the pit of the PIT lines is not closed, whatever the other lines say; or all lines were read, and the
+-- flow is not balanced, or the pit not tight by it.
 abbrev pub BodyRefused : Option (List ℕ) → ℕ → Bool → NetView → List ℕ → PitFault → Type 0
 BodyRefused left taken counts net body WrongSize = ⊥
 BodyRefused left taken counts net body (NotClosed b p) = (pit : List ℕ) × HasPit counts net body pit × IsFirstOpen net.pairs (holds_of pit) (b, p)
@@ -130,8 +131,8 @@ pub record IsDone {R : Type 0} (left : Option (List ℕ)) (s : LineView R) : Typ
   pub none : s.held ≡ []
   pub few : s.taken ≤ MOST_BYTES
 
--- why the pit isn't proved once END is read: a read failed; or more bytes were read than a stream may give; or something
--- stands behind END; or the sums don't prove the pit
+-- why the pit isn't proved once END is read: a read failed; or more bytes were read than a stream may give; or
+-- something stands after END; or the sums don't prove the pit
 abbrev pub EndFails : {R : Type 0} → Option (List ℕ) → NetView → RoomView → LineView R → StreamFault → Type 0
 EndFails left net room s Device = Unit {0}
 EndFails left net room s InputTooLong = MOST_BYTES < s.taken

@@ -7,8 +7,8 @@ use Rattle.check_pit.specs.StreamView.{LineView}
 use Rattle.check_pit.specs.TakenLines.{FaultIs, NoPitFault}
 use Rattle.certificate_file.specs.Prelude.{pieces_of, header_of}
 
--- These bytes were read, and the four lines of the header passed. It is the header of the text, whatever follows, whose other
--- lines are those of what is held.
+-- These bytes were read, and the four lines of the header passed. It is the header of the text, whatever follows, whose
+-- other lines are those of what is held.
 pub record ReadsHeader {R : Type 0} (remaining : R → Option (List ℕ)) (before later : LineView R) (h : Header) (bytes : List ℕ) : Type 0 where
   pub given : Consumes (remaining before.from) (remaining later.from) bytes
   pub taken : later.taken ≡ before.taken + length bytes

@@ -30,8 +30,8 @@ pub record IsLine (held : List ℕ) (count : ℕ) : Type 0 where
 abbrev pub IsNoLine : ℕ → List ℕ → CertFault → Type 0
 IsNoLine number held e = (future : List ℕ) → piece_fault (number + 1) (piece_at (pieces_of (held ++ future)) 0) ≡ Some e
 
--- why no further line is read: more bytes were read than a stream may give; or what is held is longer than a line; or the
--- text ends before a line does
+-- why no further line is read: more bytes were read than a stream may give; or what is held is longer than a line; or
+-- the text ends before a line does
 abbrev pub NoLine : {R : Type 0} → Option (List ℕ) → LineView R → StreamFault → Type 0
 NoLine left s Device = Unit {0}
 NoLine left s InputTooLong = MOST_BYTES < s.taken

@@ -31,8 +31,8 @@ AlwaysGives {A = A} gives f = (text : List ℕ) (x : A) → gives text x → x �
 abbrev pub TakesLine : {R A : Type 0} → (R → Option (List ℕ)) → (ℕ → Piece → Result A CertFault) → LineView R → LineView R → A → Type 0
 TakesLine remaining f before later x = (bytes : List ℕ) × (count : ℕ) × PassesLine remaining before later bytes count × (f (before.number + 1) (held_piece count (before.held ++ bytes)) ≡ Ok x)
 
--- What a fault of a stream says of its text, whose further bytes are not known: more bytes were read than a stream may give;
--- or the text ends here, and is cut off; or it has this fault, whatever follows.
+-- What a fault of a stream says of its text, whose further bytes are not known: more bytes were read than a stream may
+-- give; or the text ends here, and is cut off; or it has this fault, whatever follows.
 abbrev pub FaultIs : Option (List ℕ) → ℕ → (List ℕ → CertFault → Type 0) → (PitFault → Type 0) → StreamFault → Type 0
 FaultIs left taken has refused Device = Unit {0}
 FaultIs left taken has refused InputTooLong = MOST_BYTES < taken

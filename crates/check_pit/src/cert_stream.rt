@@ -60,8 +60,8 @@ impl<R: Drop> CertStream<R> {
 }
 
 impl<R> CertStream<R> {
-    /// The certificate that a device gives from here on, with memory that was taken before and holds no byte. Reads nothing
-    /// yet.
+    /// The certificate that a device gives from here on, with memory that was taken before and holds no byte. Reads
+    /// nothing yet.
     pub fn over(held: StreamBytes, from: R) -> CertStream<R>
         requires { held ≡ [] }
         ensures from { result.lines.from ≡ from }
@@ -133,24 +133,24 @@ impl<R: CountedRead> CertStream<R> {
 /// Checks the certificate whose header was read, line by line up to its end or its first fault: whether its pit is a
 /// greatest closed set of the net with this graph, which its flow shows. A certificate is accepted once.
 ///
-/// Takes no memory but what the room has. Its time is linear in the numbers of blocks and pairs and in the length of the
-/// text, but for the search of the predecessor of each REST line among those of its block.
+/// Takes no memory but what the room has. Its time is linear in the numbers of blocks and pairs and in the length of
+/// the text, but for the search of the predecessor of each REST line among those of its block.
 ///
-/// The header that was read names this group and the number of blocks of the net, for as many blocks the room was made, and
-/// the device has counted fewer than 2^64 - 1 failures, so that one more can be counted.
+/// The header that was read names this group and the number of blocks of the net, for as many blocks the room was made,
+/// and the device has counted fewer than 2^64 - 1 failures, so that one more can be counted.
 ///
 /// # Errors
-/// `Device` where a read failed; `InputTooLong` where more than 2^32 bytes were read. Otherwise the first that the lines
-/// show of these:
+/// `Device` where a read failed; `InputTooLong` where more than 2^32 bytes were read. Otherwise the first that the
+/// lines show of these:
 ///
 /// - `Cert` with the fault of a line;
 /// - `NotClosed` with the first such pair, at the first line after the PIT lines;
-/// - for each line `Negative`, `OverCapacity`, then `TooLarge`: a sum over the lines so far that doesn't fit (the balance
-///   of a block, the worth of the pit, or what the source could still give);
+/// - for each line `Negative`, `OverCapacity`, then `TooLarge`: a sum over the lines so far that doesn't fit (the
+///   balance of a block, the worth of the pit, or what the source could still give);
 /// - after END `Unbalanced` with the first such block, then `NotTight`.
 ///
-/// `Cert` with `NoMemory` only in a room that has served a check before, where memory for the list of the pit's blocks is
-/// refused. Called again, the stream returns the fault that it returned before, or `Cert` with `Truncated` once the
+/// `Cert` with `NoMemory` only in a room that has served a check before, where memory for the list of the pit's blocks
+/// is refused. Called again, the stream returns the fault that it returned before, or `Cert` with `Truncated` once the
 /// certificate was accepted.
 pub fn check_held<'a, R: CountedRead, G: OrderedGroup>(
     stream: &mut CertStream<R>,

@@ -122,8 +122,8 @@ fn balances<G: OrderedGroup>(net: &Net<G>, flow: &Flow<G>) -> Result<(), PitFaul
     Ok(())
 }
 
-// The first pair whose block is in the pit while its predecessor isn't. Given memory, the blocks of the pit are marked, so that
-// none is searched for.
+// The first pair whose block is in the pit while its predecessor isn't. Given memory, the blocks of the pit are marked,
+// so that none is searched for.
 fn first_open_by<G: OrderedGroup>(
     alloc: Option<Global>,
     net: &Net<G>,
@@ -171,8 +171,8 @@ pub fn check<'a, G: OrderedGroup>(
     checked(None, net, pit, flow)
 }
 
-/// Decides what [`check`] decides, in less time: the blocks of the pit are marked, so that none is searched for among them, in
-/// memory for a mark of each block. Where that is refused, it takes the time of `check`.
+/// Decides what [`check`] decides, in less time: the blocks of the pit are marked, so that none is searched for among
+/// them, in memory for a mark of each block. Where that is refused, it takes the time of `check`.
 ///
 /// # Errors
 /// Those of [`check`].

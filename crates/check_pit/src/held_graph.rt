@@ -16,11 +16,11 @@ use prec_file::{ListedPairs, Predecessors};
 use std::alloc::{AllocError, Global};
 use std::marker::Model;
 
-/// A graph that is another's, with pairs that it lists itself or that are held apart from it: the net in which a check looks for
-/// the pit to be closed.
+/// A graph that is another's, with pairs that it lists itself or that are held apart from it: the net in which a check
+/// looks for the pit to be closed.
 ///
-/// A [`closure_net::GraphRef`] lists its pairs. Where places say who rests on whom, a graph without pairs has what blocks are
-/// worth, and the pairs are held beside it.
+/// A [`closure_net::GraphRef`] lists its pairs. Where places say who rests on whom, a graph without pairs has what
+/// blocks are worth, and the pairs are held beside it.
 #[derive(Drop)]
 pub struct HeldGraph<'a, G: OrderedGroup> {
     // what each block is worth

@@ -17,8 +17,8 @@ pub fn tight_closed_pit_is_refused_for_size_only()
     ensures { RefusedForSizeOnly }
 {}
 
-/// What is summed while the lines of a certificate are read, balance by balance, tells of its flow whether each block is
-/// balanced and whether the pit is tight by it.
+/// What is summed while the lines of a certificate are read, balance by balance, tells of its flow whether each block
+/// is balanced and whether the pit is tight by it.
 pub fn line_sums_tell_flow()
     ensures { LineSumsTell }
 {}

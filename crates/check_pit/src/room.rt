@@ -24,8 +24,8 @@ use ordered_group::{OrderedGroup, at_most, is_zero, same, zeros};
 use std::alloc::{AllocError, Global};
 use std::marker::Model;
 
-/// What a check of a stream needs of memory: a balance and a mark for each block, and the list of the pit's blocks. It serves
-/// one check after another.
+/// What a check of a stream needs of memory: a balance and a mark for each block, and the list of the pit's blocks. It
+/// serves one check after another.
 #[derive(Drop)]
 pub struct Room<G: OrderedGroup> {
     balances: Vec<G>,

@@ -1,4 +1,4 @@
-//! Reads the next line behind a certificate's header from a device, and refuses one out of its order or of a pair
+//! Reads the next line after a certificate's header from a device, and refuses one out of its order or of a pair
 //! that the mine doesn't have.
 
 ghost use Rattle.std.specs.Prelude.{◌≡◌, ◌+◌, ◌-◌, ◌^◌, ◌<◌, ◌≤◌, true, false, length, IsErrOf, MatchResult};
@@ -30,7 +30,7 @@ fn is_of_model(held: HeldRef<'_>, line: &BodyLine) -> bool
     }
 }
 
-// The line of this number that a text is, behind another one.
+// The line of this number that a text is, after another one.
 fn line_behind(
     held: HeldRef<'_>,
     counts: bool,

@@ -1,4 +1,4 @@
-//! Checks all lines behind a certificate's header as they are read: decides whether the pit is closed, the flow
+//! Checks all lines after a certificate's header as they are read: decides whether the pit is closed, the flow
 //! balanced and the pit tight, or gives the first fault.
 
 ghost use Rattle.std.specs.Prelude.{◌≡◌, ℕ, ◌+◌, ◌-◌, ◌^◌, ◌<◌, ◌≤◌, ◌++◌, true, false, List, length, IfOk, IsErrOf, MatchResult};
@@ -60,7 +60,7 @@ fn close_pit<G: OrderedGroup>(
     }
 }
 
-// Whether nothing stands behind END, and the sums prove the pit.
+// Whether nothing stands after END, and the sums prove the pit.
 fn check_end<R: CountedRead, G: OrderedGroup>(
     lines: &mut StreamLines<R>,
     net: &HeldGraph<'_, G>,
@@ -89,11 +89,11 @@ fn check_end<R: CountedRead, G: OrderedGroup>(
     Ok(())
 }
 
-/// Checks the lines behind the header, up to the end of the text.
+/// Checks the lines after the header, up to the end of the text.
 ///
 /// # Errors
-/// The first of these: the fault of a line, when it is read; `NotClosed` at the first line after the PIT lines; `Negative`,
-/// `OverCapacity` and `TooLarge` of a line; after END `Unbalanced` and `NotTight`.
+/// The first of these: the fault of a line, when it is read; `NotClosed` at the first line after the PIT lines;
+/// `Negative`, `OverCapacity` and `TooLarge` of a line; after END `Unbalanced` and `NotTight`.
 pub fn check_lines<R: CountedRead, G: OrderedGroup>(
     lines: &mut StreamLines<R>,
     net: &HeldGraph<'_, G>,

@@ -1,7 +1,8 @@
 //! Gives the lines of a text that is read from a device one after another, in memory for one line.
 //!
-//! A line is taken in three steps, so that no borrow of it is held while the device is read: [`StreamLines::next_length`]
-//! reads until it is held whole, [`StreamLines::front`] lends it, and [`StreamLines::pass`] gives it up.
+//! A line is taken in three steps, so that no borrow of it is held while the device is read:
+//! [`StreamLines::next_length`] reads until it is held whole, [`StreamLines::front`] lends it, and
+//! [`StreamLines::pass`] gives it up.
 
 ghost use Rattle.std.specs.Prelude.{◌≡◌, ℕ, ◌+◌, ◌^◌, ◌-◌, ◌<◌, ◌≤◌, ◌==◌, [], length, drop, take, position, Some, IfOk, IfErr, IsErrOf, MatchResult};
 ghost use Rattle.fixed_worth.specs.declared.limits.TheConstants.{LINE_BYTES, MOST_BYTES};

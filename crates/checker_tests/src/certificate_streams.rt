@@ -23,7 +23,7 @@ const WHOLE: &[u8] =
 
 type Device<'a> = Counted<Failing<&'a [u8]>>;
 
-// The header, and these lines behind it.
+// The header, and these lines after it.
 fn with_header(alloc: Global, body: &[u8]) -> Result<Vec<u8>, Fail> {
     let mut text = Vec::from_slice(alloc, HEADER)?;
     text.extend_from_slice(body)?;
@@ -49,7 +49,7 @@ fn pass_header(stream: &mut CertStream<Device<'_>>, net: &Net<WorthSize>) -> Res
     Ok(())
 }
 
-// A text of which each read gives at most 16 bytes and one read fails, behind its header.
+// A text of which each read gives at most 16 bytes and one read fails, after its header.
 fn stream_of<'a>(
     alloc: Global,
     text: &'a [u8],
@@ -75,7 +75,7 @@ fn worth_of(
     }
 }
 
-// What a check of lines behind the header answers in this room.
+// What a check of lines after the header answers in this room.
 fn answer_in(
     alloc: Global,
     room: &mut Room<WorthSize>,
@@ -145,7 +145,7 @@ fn answers_of(
     answers_over(alloc, &text, fails_at, &net)
 }
 
-// Lines behind the header, and what a check of them answers.
+// Lines after the header, and what a check of them answers.
 type Row = (&'static [u8], Result<WorthSize, StreamFault>);
 
 // Checks of three blocks in one room, one after another.
@@ -235,8 +235,8 @@ fn reads_of(alloc: Global, text: &[u8], most: usize) -> Result<[u64; 2], Fail> {
     Ok([of_header, stream.into_device().into_inner().calls()])
 }
 
-// The header has 46 bytes. The end is found by one read more than there are bytes, where each gives one; and no read is made for a
-// line that is held, as that behind END.
+// The header has 46 bytes. The end is found by one read more than there are bytes, where each gives one; and no read is
+// made for a line that is held, as that after END.
 #[test]
 fn a_stream_is_read_only_where_no_line_is_held(rt: HostRuntime) -> Result<(), Fail> {
     let alloc = rt.alloc();

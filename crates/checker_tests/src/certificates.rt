@@ -58,14 +58,14 @@ fn fault(alloc: Global, text: &[u8]) -> Result<Option<CertFault>, Fail> {
     fault_in::<Worth>(alloc, text)
 }
 
-// The fault of a text with more behind it.
+// The fault of a text with more after it.
 fn fault_with(alloc: Global, text: &[u8], more: &[u8]) -> Result<Option<CertFault>, Fail> {
     let mut whole = Vec::from_slice(alloc, text)?;
     whole.extend_from_slice(more)?;
     fault(alloc, &whole)
 }
 
-// Lines behind the header, and the fault that they are.
+// Lines after the header, and the fault that they are.
 type Row = (&'static [u8], Option<CertFault>);
 
 fn have_their_faults(rt: &impl Abort, alloc: Global, rows: &[Row]) -> Result<(), Fail> {
@@ -192,7 +192,7 @@ fn numbers_have_one_spelling(rt: HostRuntime) -> Result<(), Fail> {
     have_their_faults(&rt, rt.alloc(), &rows)
 }
 
-// The fault of so many bytes without an end of a line behind the header.
+// The fault of so many bytes without an end of a line after the header.
 fn fault_of_line(alloc: Global, length: usize) -> Result<Option<CertFault>, Fail> {
     let line: Vec<u8> = vec![in alloc; b'x'; length]?;
     fault_with(alloc, HEADER, &line)

@@ -288,7 +288,8 @@ fn a_block_goes_to_the_mill_or_to_waste(rt: HostRuntime) {
     same(&rt, negative.err(), Some(PricesFault::NegativeRevenue(0)));
 }
 
-// Leached a block earns 6 and costs 1, milled it earns 10 and costs 4, and mining costs 2. At 0.75 both ways are worth as much.
+// Leached a block earns 6 and costs 1, milled it earns 10 and costs 4, and mining costs 2. At 0.75 both ways are worth
+// as much.
 #[test]
 fn a_block_goes_the_way_that_is_worth_most(rt: HostRuntime) {
     let alloc = rt.alloc();

@@ -15,7 +15,8 @@ get_grows old new i e h = ap (λ xs. get_or xs i 0) e.is ∙ get_or_append_left 
 pub length_grows : (old new : List ℕ) → Extends old new → length old ≤ length new
 length_grows old new e = omega (arith, ap length e.is, length-append old e.more)
 
--- the blocks before place h were looked at: what is beside them is found, and nothing that a set of this kind could lack
+-- the blocks before place h were looked at: what is beside them is found, and nothing that a set of this kind could
+-- lack
 pub record Searched (net : NetView) (flow : FlowView) (found : List ℕ) (h : ℕ) : Type 0 where
   pub begun : (b : ℕ) → b < length net.worths → HasSourceResidual net.worths flow.source b → holds_of found b ≡ true
   pub down : (i k : ℕ) → i < h → k < length net.pairs → from_at net.pairs k ≡ get_or found i 0 → holds_of found (to_at net.pairs k) ≡ true

@@ -38,8 +38,8 @@ NetFaultStands n ws NoMemory = ⊥
 abbrev pub BlockOverflows : (ℤ → ℕ → Amount) → ℕ → List ℤ → Type 0
 BlockOverflows block n vs = (b : ℕ) × (b < length vs) × ¬ (FitsPair (block (slice_index_or vs b (pos 0)) n))
 
--- Why worths in billionths make no net: there isn't one for each block; the amount of a block, or a sum of amounts, doesn't fit; or
--- memory is refused, which is asked for only where the lengths agree.
+-- Why worths in billionths make no net: there isn't one for each block; the amount of a block, or a sum of amounts,
+-- doesn't fit; or memory is refused, which is asked for only where the lengths agree.
 abbrev pub WorthsFaultStands : (ℤ → ℕ → Amount) → ℕ → List ℤ → NetFault → Type 0
 WorthsFaultStands block n vs WrongLength = n ≢ length vs
 WorthsFaultStands block n vs TooLarge = (n ≡ length vs) × (BlockOverflows block n vs ⊎ WorthsOverflow (map (λ v. block v n) vs))

@@ -3,7 +3,8 @@ use Rattle.std.specs.Prelude.{◌≡◌, ◌↔◌, ℕ, ◌<◌, ℤ, ◌≤ℤ
 use Rattle.ordered_group.specs.Prelude.{Amount, amount_at, worth_in, count_in}
 use Rattle.closure_net.specs.Network.{NetView}
 
--- How many blocks there are, which block rests on which, and what each block is worth in billionths. A set of blocks is a test.
+-- How many blocks there are, which block rests on which, and what each block is worth in billionths. A set of blocks is
+-- a test.
 pub record Mine : Type 0 where
   pub blocks : ℕ
   pub rests : ℕ → ℕ → Bool

@@ -31,7 +31,8 @@ holds_of blocks b = list_any (λ x. x == b) blocks
 abbrev pub IsAscending : List ℕ → Type 0
 IsAscending xs = (i j : ℕ) → i < j → j < length xs → slice_index xs i < slice_index xs j
 
--- what every net is: its pairs are in order and of its blocks, each worth has an opposite that fits, and so does each sum of the positive worths in their order
+-- what every net is: its pairs are in order and of its blocks, each worth has an opposite that fits, and so does each
+-- sum of the positive worths in their order
 pub record IsNet (net : NetView) : Type 0 where
   pub rests : IsRests (record { blocks = length net.worths; pairs = net.pairs })
   pub opposites : (b : ℕ) → b < length net.worths → FitsPair (minus zero_amount (amount_at net.worths b))

@@ -12,7 +12,8 @@ HasSourceResidual ws ss b = ¬ (AtMost (positive (amount_at ws b)) (amount_at ss
 abbrev pub Carries : List Amount → ℕ → Type 0
 Carries fs k = ¬ (AtMost (amount_at fs k) zero_amount)
 
--- a set that holds each block to which the source could still give something, and with a block each one that it rests on and each one that sends something to it
+-- a set that holds each block to which the source could still give something, and with a block each one that it rests
+-- on and each one that sends something to it
 pub record Reaches (net : NetView) (flow : FlowView) (e : ℕ → Bool) : Type 0 where
   pub begins : (b : ℕ) → b < length net.worths → HasSourceResidual net.worths flow.source b → IsTrue (e b)
   pub down : (k : ℕ) → k < length net.pairs → IsTrue (e (from_at net.pairs k)) → IsTrue (e (to_at net.pairs k))

@@ -56,7 +56,7 @@ sender_at ps b j = from_at ps (slice_index (below_of ps b) j)
 abbrev pub SendsAt : List (ℕ × ℕ) → List Amount → ℕ → ℕ → Type 0
 SendsAt ps fs b j = Carries fs (slice_index (below_of ps b) j)
 
--- wherever b stands, it is at this place or behind it
+-- wherever b stands, it is at this place or after it
 abbrev pub StandsFrom : List ℕ → ℕ → ℕ → Type 0
 StandsFrom xs b from = (i : ℕ) → i < length xs → slice_index xs i ≡ b → from ≤ i
 

@@ -10,11 +10,11 @@ use ordered_group::OrderedGroup;
 use std::alloc::{AllocError, Global};
 use std::marker::Model;
 
-/// An amount for each arc of one kind, in their order: the arcs of the pairs, those from the source to each block, or those
-/// from each block to the sink.
+/// An amount for each arc of one kind, in their order: the arcs of the pairs, those from the source to each block, or
+/// those from each block to the sink.
 ///
-/// Most flows carry something over few of these, so that a number for each arc and the amounts of those few take a small
-/// part of the memory that an amount for each arc would.
+/// Most flows carry something over few of these, so that a number for each arc and the amounts of those few take a
+/// small part of the memory that an amount for each arc would.
 #[derive(Drop)]
 pub struct Carried<G: OrderedGroup> {
     // For each arc the index of its amount plus one, or 0 where none was set. `None` where `amounts` has one for each

@@ -16,8 +16,8 @@ use std::marker::Model;
 
 /// What each block rests on, and what it is worth: the graph in which a pit is a closure.
 ///
-/// A check of a certificate needs no more. A [`crate::Net`], which a solver works on, has the list of pairs beside it, and for
-/// each block the blocks that rest on it.
+/// A check of a certificate needs no more. A [`crate::Net`], which a solver works on, has the list of pairs beside it,
+/// and for each block the blocks that rest on it.
 #[derive(Drop)]
 pub struct Graph<G: OrderedGroup> {
     predecessors: Predecessors,

@@ -21,7 +21,7 @@ impl Model for Pit {
     ghost invariant = { λ p. IsAscending p.blocks.items };
 }
 
-// From which place on b can stand: behind the place before it, where a block below b stands there.
+// From which place on b can stand: after the place before it, where a block below b stands there.
 fn lowest_place(blocks: &[u32], place: usize, b: u32) -> usize
     requires { IsAscending blocks.now }
     ensures inside { result ≤ length blocks.now }
@@ -147,11 +147,11 @@ impl Pit {
         }
     }
 
-    /// Whether b is in the pit, searching outward from `*place`. If it is, `*place` becomes the position after b; otherwise
-    /// it is unchanged.
+    /// Whether b is in the pit, searching outward from `*place`. If it is, `*place` becomes the position after b;
+    /// otherwise it is unchanged.
     ///
-    /// `*place` may be any number, and the nearer it is to b, the faster the answer: blocks that follow one another in the
-    /// pit are found in constant time each.
+    /// `*place` may be any number, and the nearer it is to b, the faster the answer: blocks that follow one another in
+    /// the pit are found in constant time each.
     pub fn holds_near(&self, place: &mut usize, b: u32) -> bool
         ensures is { result ≡ holds_of self.now b }
         ensures place { MatchBool result

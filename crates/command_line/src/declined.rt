@@ -5,8 +5,8 @@ use clap::Error;
 use clap::error::ErrorKind;
 use std::io;
 
-/// Why the arguments ask for nothing that can be done: a help text or the version was asked for, or one is wrong, or memory
-/// was refused.
+/// Why the arguments ask for nothing that can be done: a help text or the version was asked for, or one is wrong, or
+/// memory was refused.
 #[derive(Drop)]
 pub struct Declined {
     error: Error,

@@ -1,8 +1,8 @@
 //! The command line of `pit`: which command was asked for, with which arguments.
 //!
 //! Uses the `clap` library alone, and promises nothing except that it is safe. What an argument means is decided above,
-//! where numbers and names are read; an argument that names nothing is reported here, in the library's form. A crate of its
-//! own, because `clap` is dear to prove over and nothing else needs it.
+//! where numbers and names are read; an argument that names nothing is reported here, in the library's form. A crate of
+//! its own, because `clap` is dear to prove over and nothing else needs it.
 #![tactic(auto)]
 
 mod bound_command;

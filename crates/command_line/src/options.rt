@@ -35,7 +35,8 @@ pub fn number_option<'a>(alloc: Global, name: &'a str, shown: &'a str, help: &'a
     named_option(alloc, name, shown, help).allow_negative_numbers(true)
 }
 
-/// The command with these options more, in the order in which its help shows them, where memory wasn't refused for them.
+/// The command with these options more, in the order in which its help shows them, where memory wasn't refused for
+/// them.
 pub fn with_options<'a>(
     command: Command<'a>,
     options: Result<Vec<Arg<'a>>, AllocError>,

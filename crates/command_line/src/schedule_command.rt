@@ -1,5 +1,5 @@
-//! The command `schedule`: its options and help, and what its arguments ask for: the files of a schedule, of its periods and
-//! of its mine, and of the certificate that bounds it.
+//! The command `schedule`: its options and help, and what its arguments ask for: the files of a schedule, of its
+//! periods and of its mine, and of the certificate that bounds it.
 
 use crate::options::{
     ModelArgs, STATUSES, file_arg, file_option, model_args, model_options, named_option,
@@ -41,8 +41,8 @@ const BEST_HELP: &str =
 const FACTOR_HELP: &str =
     "The share of the revenues that counts, in thousandths, from 0 to 10000, with --blocks; 1000 by default";
 
-/// The files of a schedule, of its periods and of its mine, where they were given the factor, the blocks that have the uses
-/// and the certificate of a bound, and whether it is told why a file failed.
+/// The files of a schedule, of its periods and of its mine, where they were given the factor, the blocks that have the
+/// uses and the certificate of a bound, and whether it is told why a file failed.
 #[derive(Clone, Copy)]
 pub struct ScheduleArgs<'a> {
     pub prec: &'a str,
@@ -66,8 +66,8 @@ pub fn schedule_command<'a>(alloc: Global) -> Result<Command<'a>, AllocError> {
     with_options(command, plan_options(alloc))
 }
 
-// The files of periods, of uses and of the schedule, at what factor it is judged, what bounds it, and whether it is told why a
-// file failed.
+// The files of periods, of uses and of the schedule, at what factor it is judged, what bounds it, and whether it is
+// told why a file failed.
 fn plan_options<'a>(alloc: Global) -> Result<Vec<Arg<'a>>, AllocError> {
     let periods = file_option(alloc, "periods", PERIODS_HELP);
     let uses = uses_option(alloc)?;

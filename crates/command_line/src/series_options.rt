@@ -17,8 +17,9 @@ pub enum SeriesCommand {
     Report,
 }
 
-/// The arguments of such a command: the files, of which that of the predecessors may be left out, and where they were given the method, the steps, the workers and the file of the
-/// table of blocks, and whether it says which way each block goes, progress is shown and it is told why a file failed.
+/// The arguments of such a command: the files, of which that of the predecessors may be left out, and where they were
+/// given the method, the steps, the workers and the file of the table of blocks, and whether it says which way each
+/// block goes, progress is shown and it is told why a file failed.
 #[derive(Clone, Copy)]
 pub struct SeriesArgs<'a> {
     pub command: SeriesCommand,

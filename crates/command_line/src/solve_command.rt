@@ -51,8 +51,9 @@ const USED: &str = "used";
 const ROOM_HELP: &str =
     "The most steps of a trace, from 1 to 16777216 (1048576 by default); no effect without --trace";
 
-/// The arguments of a request to solve: the files, and where they were given the factor, the method, the kind of amount, the steps, the
-/// workers, the trace and its room, the periods and what blocks use, and whether progress is shown and it is told why a file failed.
+/// The arguments of a request to solve: the files, and where they were given the factor, the method, the kind of
+/// amount, the steps, the workers, the trace and its room, the periods and what blocks use, and whether progress is
+/// shown and it is told why a file failed.
 #[derive(Clone, Copy)]
 pub struct SolveArgs<'a> {
     pub prec: &'a str,

@@ -33,8 +33,8 @@ const BEST_HELP: &str =
 const FACTOR_HELP: &str =
     "The share of the revenues that counts, in thousandths, from 0 to 10000, with --blocks; 1000 by default";
 
-/// The files of a design and its mine, where they were given the factor and the certificate of the best pit, and whether it
-/// is told why a file failed.
+/// The files of a design and its mine, where they were given the factor and the certificate of the best pit, and
+/// whether it is told why a file failed.
 #[derive(Clone, Copy)]
 pub struct ValueArgs<'a> {
     pub prec: &'a str,

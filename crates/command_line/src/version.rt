@@ -1,4 +1,4 @@
-//! What `pit --version` prints behind the program's name.
+//! What `pit --version` prints after the program's name.
 
 /// The version, and on a line of its own the logic that this source is proved in, as `rt version` prints it.
 ///

@@ -41,14 +41,15 @@ pub record GapLeaves (texts : MineTexts) (design certificate : List ℕ) : Type 
   pub best : CertificateAccepted texts certificate name count worth
   pub leaves : ¬ (FitsSigned w128 (worth -ℤ v.worth))
 
--- Why the engine answers a fault: it is one that a check would answer, and of the texts of the mine unless the design is read;
--- or, where the texts of the mine are read, it is one of the design.
+-- Why the engine answers a fault: it is one that a check would answer, and of the texts of the mine unless the design
+-- is read; or, where the texts of the mine are read, it is one of the design.
 abbrev pub CompareFails : MineTexts → List ℕ → List ℕ → ValueFault → Type 0
 CompareFails texts design certificate (value.Engine fault) = Fails texts certificate fault × (MineFails texts fault ⊎ IsDrawn texts design)
 CompareFails texts design certificate (value.Design problem.TooLarge) = WorthLeaves texts design ⊎ GapLeaves texts design certificate
 CompareFails texts design certificate (value.Design p) = (n : ℕ) × DenoteMine texts n × DesignFails n design p
 
--- what is in the writer at a fault: what was there before, unless a device failed; then perhaps a prefix of an answer too
+-- what is in the writer at a fault: what was there before, unless a device failed; then perhaps a prefix of an answer
+-- too
 abbrev pub WritesComparedPrefix : MineTexts → List ℕ → List ℕ → Option (List ℕ) → Option (List ℕ) → Type 0
 WritesComparedPrefix texts design certificate old new = Keeps old new ⊎ ((x : ComparedView) × IsComparison texts design certificate x × ReceivedPrefix old new (compared_text x))
 

@@ -19,8 +19,8 @@ pub record IsDrawn (texts : MineTexts) (design : List ℕ) : Type 0 where
   pub mine : DenoteMine texts blocks
   pub drawn : IsDesign blocks design
 
--- The answer tells what the design comes to; a check accepts the certificate, whose pit has so many blocks and is worth so much; and the
--- gap is what that pit is worth more than the design. It is never negative where the design is a pit.
+-- The answer tells what the design comes to; a check accepts the certificate, whose pit has so many blocks and is worth
+-- so much; and the gap is what that pit is worth more than the design. It is never negative where the design is a pit.
 pub record IsCompared (texts : MineTexts) (design certificate : List ℕ) (v : DesignView) (count : ℕ) (worth gap : ℤ) : Type 0 where
   pub valued : IsValued texts design v
   pub name : Group

@@ -10,16 +10,17 @@ use Rattle.engines.specs.declared.judgement.Verdict.TheVariants.{Done, No}
 use Rattle.mine_inputs.specs.Prelude.{ArePairsBy, MineTexts, DenoteMine, mine_of, rests_of}
 use Rattle.design_engines.specs.DesignTexts.{IsDesign}
 
--- What is told of a design: how many blocks it has, what they are worth in billionths, how many pairs lead from a block of it
--- to one outside, and the first of those.
+-- What is told of a design: how many blocks it has, what they are worth in billionths, how many pairs lead from a block
+-- of it to one outside, and the first of those.
 pub record DesignView : Type 0 where
   pub count : ℕ
   pub worth : ℤ
   pub leading : ℕ
   pub needs : List (ℕ × ℕ)
 
--- The texts denote a mine and a design of some of its blocks, and it is told what this design comes to: its blocks, what they
--- are worth, and of the mine's pairs, each taken once, those that lead out. None leads out exactly where the design is a pit.
+-- The texts denote a mine and a design of some of its blocks, and it is told what this design comes to: its blocks,
+-- what they are worth, and of the mine's pairs, each taken once, those that lead out. None leads out exactly where the
+-- design is a pit.
 pub record IsValued (texts : MineTexts) (design : List ℕ) (v : DesignView) : Type 0 where
   pub blocks : ℕ
   pub mine : DenoteMine texts blocks

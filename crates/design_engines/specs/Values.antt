@@ -13,7 +13,8 @@ use Rattle.design_engines.specs.declared.value_fault.ValueFault.TheVariants as v
 use Rattle.design_engines.specs.DesignTexts.{IsDesign, DesignFails}
 use Rattle.design_engines.specs.Designs.{DesignView, IsValued, design_text, verdict_for}
 
--- The texts denote a mine and a design, and a sum of the worths of the design's blocks, ascending, doesn't fit 128 bits.
+-- The texts denote a mine and a design, and a sum of the worths of the design's blocks, ascending, doesn't fit 128
+-- bits.
 pub record WorthLeaves (texts : MineTexts) (design : List ℕ) : Type 0 where
   pub blocks : ℕ
   pub mine : DenoteMine texts blocks
@@ -32,7 +33,8 @@ ValueFails texts design (value.Engine fault) = MineFails texts fault
 ValueFails texts design (value.Design problem.TooLarge) = WorthLeaves texts design
 ValueFails texts design (value.Design p) = (n : ℕ) × DenoteMine texts n × DesignFails n design p
 
--- what is in the writer at a fault: what was there before, unless a device failed; then perhaps a prefix of an answer too
+-- what is in the writer at a fault: what was there before, unless a device failed; then perhaps a prefix of an answer
+-- too
 abbrev pub WritesValuePrefix : MineTexts → List ℕ → Option (List ℕ) → Option (List ℕ) → Type 0
 WritesValuePrefix texts design old new = Keeps old new ⊎ ((v : DesignView) × IsValued texts design v × ReceivedPrefix old new (design_text v))
 

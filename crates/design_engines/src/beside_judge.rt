@@ -40,13 +40,14 @@ pub(crate) struct BesideCase<'a, R> {
     pub(crate) marks: Vec<bool>,
 }
 
-/// What a design comes to in a mine that was read, and what a check says of the certificate that a device gives. Where the
-/// blocks have prices they are worth what these give at the factor that the certificate names. The certificate is read line by
-/// line, up to its end or to its first fault, from a stream that holds the device meanwhile. The device is handed back.
+/// What a design comes to in a mine that was read, and what a check says of the certificate that a device gives. Where
+/// the blocks have prices they are worth what these give at the factor that the certificate names. The certificate is
+/// read line by line, up to its end or to its first fault, from a stream that holds the device meanwhile. The device is
+/// handed back.
 ///
 /// # Errors
-/// Those of the certificate that `engines::check_engine` has, and `TooLarge` where a sum of the worths of the design's blocks
-/// doesn't fit.
+/// Those of the certificate that `engines::check_engine` has, and `TooLarge` where a sum of the worths of the design's
+/// blocks doesn't fit.
 pub(crate) fn judge_beside<R: Threads + Sync, C: CountedRead>(
     device: C,
     case: BesideCase<'_, R>,
@@ -73,8 +74,8 @@ pub(crate) fn judge_beside<R: Threads + Sync, C: CountedRead>(
     (stream.into_device(), beside)
 }
 
-// Judges the case and the certificate of a stream. The values or prices and the marks are given back before the check takes
-// memory.
+// Judges the case and the certificate of a stream. The values or prices and the marks are given back before the check
+// takes memory.
 fn beside_stream<R: Threads + Sync, C: CountedRead>(
     case: BesideCase<'_, R>,
     stream: &mut CertStream<C>,

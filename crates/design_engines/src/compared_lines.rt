@@ -25,12 +25,12 @@ use engines::{EngineFault, Judgement, Verdict};
 use fixed_worth::{CountedWrite, Nanos, write_text};
 use std::alloc::{AllocError, Global};
 
-/// Writes what a design comes to and, beside it, the pit of a certificate that a check accepts; or the line of a check that
-/// refuses the certificate.
+/// Writes what a design comes to and, beside it, the pit of a certificate that a check accepts; or the line of a check
+/// that refuses the certificate.
 ///
 /// # Errors
-/// `TooLarge` where the gap doesn't fit, `Memory` where memory is refused: then nothing was written. `Device` where a write
-/// fails: the writer then has a prefix.
+/// `TooLarge` where the gap doesn't fit, `Memory` where memory is refused: then nothing was written. `Device` where a
+/// write fails: the writer then has a prefix.
 pub(crate) fn tell_beside<W: CountedWrite>(
     alloc: Global,
     beside: Beside,
@@ -111,7 +111,7 @@ fn write_compared<W: CountedWrite>(
     Ok(())
 }
 
-// The lines of a design, and that of a pit behind them.
+// The lines of a design, and that of a pit after them.
 fn with_best(
     alloc: Global,
     design: &String,

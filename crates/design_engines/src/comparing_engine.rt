@@ -18,20 +18,20 @@ use mine_inputs::mine_to_check;
 use std::alloc::Global;
 use std::thread::Threads;
 
-/// Judges a design as [`value_engine`](crate::value_engine) does, and compares it with the pit of a certificate, where the
-/// blocks have prices at the factor that the certificate names.
+/// Judges a design as [`value_engine`](crate::value_engine) does, and compares it with the pit of a certificate, where
+/// the blocks have prices at the factor that the certificate names.
 ///
-/// Where [`check_engine`](engines::check_engine) would accept the certificate, a last line `BEST count worth GAP amount` comes
-/// after the lines of the design. It has the certificate's pit, and by how much that is worth more than the design: never a
-/// negative amount where the design is a pit. `Done` where the design is a pit, and else `No`. Where the certificate would be
-/// refused, the line of that refusal is all that is written: `No`.
+/// Where [`check_engine`](engines::check_engine) would accept the certificate, a last line
+/// `BEST count worth GAP amount` comes after the lines of the design. It has the certificate's pit, and by how much
+/// that is worth more than the design: never a negative amount where the design is a pit. `Done` where the design is a
+/// pit, and else `No`. Where the certificate would be refused, the line of that refusal is all that is written: `No`.
 ///
 /// The inputs are read in the order of the arguments, each to its end, except the certificate, which is read up to its
 /// first fault. Nothing is written before the answer is known.
 ///
 /// # Errors
-/// Those of [`value_engine`](crate::value_engine), and after those of the design's text those of a check: `Certificate` and
-/// `Model`. `TooLarge` also where the gap doesn't fit.
+/// Those of [`value_engine`](crate::value_engine), and after those of the design's text those of a check: `Certificate`
+/// and `Model`. `TooLarge` also where the gap doesn't fit.
 ///
 /// Each device must have counted fewer than 2^64 - 1 failures, so that one more can be counted.
 pub fn compare_engine<

@@ -16,8 +16,8 @@ use std::alloc::Global;
 /// The marks of the blocks of a design, of n blocks. The bytes of its text are given back here.
 ///
 /// # Errors
-/// `Design` for a text that is too long, or the fault of the first faulty line. `Memory` where memory is refused, `Device`
-/// where a read fails.
+/// `Design` for a text that is too long, or the fault of the first faulty line. `Memory` where memory is refused,
+/// `Device` where a read fails.
 pub(crate) fn marks_from<E: CountedRead>(
     alloc: Global,
     from: &mut E,

@@ -14,11 +14,12 @@ use engines::EngineFault;
 use fixed_worth::{CountedWrite, Nanos, write_text};
 use std::alloc::{AllocError, Global};
 
-/// Writes the lines of a design: `DESIGN`, the number of blocks and what they are worth; and `CLOSED`, or `OPEN` and the
-/// number of pairs that lead out, with a line `NEEDS` for each of the first.
+/// Writes the lines of a design: `DESIGN`, the number of blocks and what they are worth; and `CLOSED`, or `OPEN` and
+/// the number of pairs that lead out, with a line `NEEDS` for each of the first.
 ///
 /// # Errors
-/// `Memory` where memory is refused: then nothing was written. `Device` where a write fails: the writer then has a prefix.
+/// `Memory` where memory is refused: then nothing was written. `Device` where a write fails: the writer then has a
+/// prefix.
 pub(crate) fn write_design<W: CountedWrite>(
     alloc: Global,
     valued: &Valued,
@@ -50,7 +51,8 @@ pub(crate) fn text_of(alloc: Global, valued: &Valued) -> Result<String, AllocErr
     format!(in alloc; "DESIGN {count} {worth}\n{open}")
 }
 
-// Whether the design is closed: the line `CLOSED`, or `OPEN` with how many pairs lead out of it, and the first of these.
+// Whether the design is closed: the line `CLOSED`, or `OPEN` with how many pairs lead out of it, and the first of
+// these.
 fn text_of_open(alloc: Global, open: &OpenPairs) -> Result<String, AllocError>
     ensures { IfOk result
         (λ text. string_bytes text ≡ open_text open.now.count open.now.first.items) }

@@ -24,8 +24,8 @@ use std::alloc::Global;
 /// Judges a design over a mine that was read, and writes what it comes to.
 ///
 /// # Errors
-/// `TooLarge` where a sum of the worths of its blocks doesn't fit, `Memory` where memory is refused: then nothing was written.
-/// `Device` where a write fails: the writer then has a prefix.
+/// `TooLarge` where a sum of the worths of its blocks doesn't fit, `Memory` where memory is refused: then nothing was
+/// written. `Device` where a write fails: the writer then has a prefix.
 pub(crate) fn value_mine<W: CountedWrite>(
     alloc: Global,
     nanos: &[i128],

@@ -15,7 +15,8 @@ pub enum DesignProblem {
     TooLarge,
 }
 
-/// Why a design could not be judged: a fault of the mine or of a device, as other engines answer them, or one of the design.
+/// Why a design could not be judged: a fault of the mine or of a device, as other engines answer them, or one of the
+/// design.
 #[derive(Clone, Copy, Debug, PartialEq, Eq)]
 pub enum ValueFault {
     /// What is wrong isn't the design.

@@ -16,19 +16,20 @@ use shells::Factor;
 use std::alloc::Global;
 use std::thread::Threads;
 
-/// Judges a design, a set of blocks of a mine, where its blocks have prices at the factor that is asked for, and writes what
-/// it comes to.
+/// Judges a design, a set of blocks of a mine, where its blocks have prices at the factor that is asked for, and writes
+/// what it comes to.
 ///
-/// The first line is `DESIGN count worth`. Behind it comes `CLOSED` where the design is a pit, which has every block that a
-/// block of it rests on: `Done`. Otherwise `OPEN pairs` comes with how many pairs of the mine lead from a block of it to one
-/// outside, and a line `NEEDS b p` for each of the first 20 of them: `No`.
+/// The first line is `DESIGN count worth`. Behind it comes `CLOSED` where the design is a pit, which has every block
+/// that a block of it rests on: `Done`. Otherwise `OPEN pairs` comes with how many pairs of the mine lead from a block
+/// of it to one outside, and a line `NEEDS b p` for each of the first 20 of them: `No`.
 ///
-/// The inputs are read in the order of the arguments, each to its end, and nothing is written before the answer is known.
+/// The inputs are read in the order of the arguments, each to its end, and nothing is written before the answer is
+/// known.
 ///
 /// # Errors
 /// Those of `mine_inputs::mine_to_check`, then those of the design: `Design` with what is wrong with its
-/// text, or `TooLarge`. `Memory` where memory is refused, `Device` where a read or a write fails: the writer has then received
-/// a prefix of the answer, and at every other fault nothing.
+/// text, or `TooLarge`. `Memory` where memory is refused, `Device` where a read or a write fails: the writer has then
+/// received a prefix of the answer, and at every other fault nothing.
 ///
 /// Each device must have counted fewer than 2^64 - 1 failures, so that one more can be counted.
 pub fn value_engine<R: Threads + Sync, D: CountedRead, E: CountedRead, W: CountedWrite>(

@@ -32,8 +32,8 @@ pub(crate) fn is_passed(line: &[u8]) -> bool
     }
 }
 
-/// Whether a certificate is open after a line, given whether one was before it: a line `PITCERT` opens one, and a line `END`
-/// ends it.
+/// Whether a certificate is open after a line, given whether one was before it: a line `PITCERT` opens one, and a line
+/// `END` ends it.
 pub(crate) fn is_open_after(is_open: bool, line: &[u8]) -> bool
     requires { length line.now ≤ LINE_BYTES }
     ensures { result ≡ spec.is_open_after is_open (fields_of line.now) }

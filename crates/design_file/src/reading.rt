@@ -45,13 +45,14 @@ fn read_line(marks: &mut [bool], line: &[u8], n: u32, number: u64) -> Result<(),
 /// The blocks that a design has, of n blocks, at most 2^24: a mark for each block.
 ///
 /// Each line names a block, as `b` or as `PIT b`. Passed over are lines without a field, those whose first field begins
-/// with `%`, and those that a certificate has beside its pit, by their first field: `PITCERT`, `BLOCKS`, `PRICE`, `GROUP`,
-/// `SOURCE`, `REST`, `SINK` and `END`. The lines may come in any order, but after a line `PITCERT` a line `END` must follow.
+/// with `%`, and those that a certificate has beside its pit, by their first field: `PITCERT`, `BLOCKS`, `PRICE`,
+/// `GROUP`, `SOURCE`, `REST`, `SINK` and `END`. The lines may come in any order, but after a line `PITCERT` a line
+/// `END` must follow.
 ///
 /// # Errors
-/// That of the first faulty line, and of its faults the first in this order: `Text` for more than 65,536 bytes or another
-/// form, `Number`, `UnknownBlock`, `Repeated`. `Truncated` where no line is faulty and a certificate that begins in the text
-/// has no line `END`. `NoMemory` where memory for the marks is refused.
+/// That of the first faulty line, and of its faults the first in this order: `Text` for more than 65,536 bytes or
+/// another form, `Number`, `UnknownBlock`, `Repeated`. `Truncated` where no line is faulty and a certificate that
+/// begins in the text has no line `END`. `NoMemory` where memory for the marks is refused.
 pub fn read_design(alloc: Global, text: &[u8], n: u32) -> Result<Vec<bool>, DesignFault>
     requires { n ≤ MOST_BLOCKS }
     ensures { MatchResult result

@@ -12,8 +12,8 @@ use fixed_worth::MOST_BLOCKS;
 use prec_file::Predecessors;
 use std::alloc::{AllocError, Global};
 
-/// How many pairs (b, p) lead from a block b of a set to a predecessor p outside, and the first 20 of them, by b and then by
-/// p.
+/// How many pairs (b, p) lead from a block b of a set to a predecessor p outside, and the first 20 of them, by b and
+/// then by p.
 #[derive(Drop)]
 pub struct OpenPairs {
     /// How many there are.

@@ -18,7 +18,8 @@ fn with_worth(sum: i128, mark: bool, nanos: i128) -> Option<i128>
     }
 }
 
-/// The sum of the worths of the marked blocks, in billionths; none where a sum of them, ascending, doesn't fit 128 bits.
+/// The sum of the worths of the marked blocks, in billionths; none where a sum of them, ascending, doesn't fit 128
+/// bits.
 pub fn worth_of_marked(marks: &[bool], nanos: &[i128]) -> Option<i128>
     requires { length marks.now ≡ length nanos.now }
     ensures { MatchOption result

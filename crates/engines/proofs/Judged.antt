@@ -68,7 +68,7 @@ module _ (name : Group) (block : ℤ → ℕ → Amount) (counts : Bool) (texts 
         worth = worth_told block texts net h.of_mine pit h.read.ascending h.read.known count c set_worth tells worth w;
       }
 
--- the fault of a certificate's text behind its header, for the net that was made
+-- the fault of a certificate's text after its header, for the net that was made
 body_fails : (name : Group) (block : ℤ → ℕ → Amount) (counts : Bool) (texts : MineTexts) (certificate : List ℕ) (net : NetView) (fault : CertFault) → IsGroupNamed name block counts → IsHeader texts certificate (length net.worths) name → IsNet net → IsNetOf block (mine_of (length net.worths) texts) net → fault_of counts name (length net.worths) net.pairs certificate ≡ Some fault → BodyTextFails texts certificate (length net.worths) fault
 body_fails name block counts texts certificate net fault named header is_net of_mine f = grind (arith, common_steps)
 

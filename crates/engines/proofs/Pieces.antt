@@ -8,7 +8,7 @@ named_by : (name : List ℕ) (ps : List (List ℕ)) → 0 < length ps → patter
 named_by name [] h = absurd (omega arith)
 named_by name (p ∷ ps) h = refl
 
--- a word with a colon names what its name and the pieces behind it do
+-- a word with a colon names what its name and the pieces after it do
 pub named : (word name numbers : List ℕ) → parts 58 word ≡ name ∷ parts 58 numbers → pattern_of word ≡ cond (bytes_eq name (codes "cone")) (cone_of (parts 58 numbers)) None
 named word name numbers e = ap pattern_with e ∙ named_by name (parts 58 numbers) (some_part 58 numbers)
 

@@ -68,10 +68,10 @@ listed_moves from to worth n e there back h = record {
 
 module _ (m : BlocksView) (offsets : List Offset) (up : Up) (every reduced : RestsView) (pattern : IsPattern offsets) (all : AreWritten m offsets up Every every) (less : AreWritten m offsets up Reduced reduced) where
   all_read : ReadsBack every (prec_text every)
-  all_read = reads_back every all.is_rests all.narrow
+  all_read = reads_back every all.is_rests all.few all.narrow
 
   less_read : ReadsBack reduced (prec_text reduced)
-  less_read = reads_back reduced less.is_rests less.narrow
+  less_read = reads_back reduced less.is_rests less.few less.narrow
 
   listed_decide : (worth : ℕ → ℤ) (n : ℕ) (e : ℕ → Bool) → IsBest (listed_mine (pairs_of_text (prec_text reduced)) worth n) e ↔ IsBest (listed_mine (pairs_of_text (prec_text every)) worth n) e
   listed_decide worth n e =

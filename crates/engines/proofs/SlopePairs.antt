@@ -60,7 +60,7 @@ slopes_are_pairs s s' b rests k n are table one other c name count worth =
     let m = placed_in said b in
     let listed = pairs_of_text (prec_text rests) in
     let by_slopes : ArePairsBy (rests_said said m) rests.pairs = record { rising = are.slopes.rising; same = pairs_tested (slopes_said said) m (up_said said) rests are.slopes } in
-    let by_text : ArePairsBy (rests_by listed) rests.pairs = by_listed listed rests.pairs (reads_back rests are.is_rests are.narrow).same in
+    let by_text : ArePairsBy (rests_by listed) rests.pairs = by_listed listed rests.pairs (reads_back rests are.is_rests are.few are.narrow).same in
     let agree = rests_agree (rests_said said m) (rests_by listed) rests.pairs by_slopes by_text in
     let same : (i : ℕ) → mine_of i (sloped_texts s b k) ≡ mine_of i (priced_texts s' b (prec_text rests) k) = λ i j. record { blocks = i; rests = λ x y. agree x y j; worth = worth_at (table j) k } in
     let price = ap (λ (p : PricesView). price_of p k) table in (

@@ -5,14 +5,13 @@ use Rattle.std.specs.declared.cmp.Ordering.{Ordering}
 use Rattle.std.specs.declared.cmp.Ordering.TheVariants.{Less, Equal, Greater}
 use Rattle.fixed_worth.specs.declared.limits.TheConstants.{MOST_BLOCKS}
 use Rattle.prec_file.specs.Rests.{IsRests, has_pair, from_at, to_at}
-use Rattle.prec_file.specs.declared.limits.TheConstants.{MOST_PAIRS}
 use Rattle.closure_net.specs.Prelude.{NetView, FlowView, IsNet, holds_of, residual_at}
 use Rattle.check_pit.specs.Fits.{EndFits, BalanceFits, SetFits, ResidualFits, SumsFit}
 use Rattle.engines.specs.Small.{IsSmall, AreSmall, IsSmallFlow}
 
--- at most so many times 2^97, above and below zero
+-- at most so many times 2^89, above and below zero
 abbrev Bounded : ℕ → Amount → Type 0
-Bounded m x = ((neg_ℤ (pos (m * 2 ^ 97)) ≤ℤ x.w) × (x.w ≤ℤ pos (m * 2 ^ 97))) × ((neg_ℤ (pos (m * 2 ^ 97)) ≤ℤ x.c) × (x.c ≤ℤ pos (m * 2 ^ 97)))
+Bounded m x = ((neg_ℤ (pos (m * 2 ^ 89)) ≤ℤ x.w) × (x.w ≤ℤ pos (m * 2 ^ 89))) × ((neg_ℤ (pos (m * 2 ^ 89)) ≤ℤ x.c) × (x.c ≤ℤ pos (m * 2 ^ 89)))
 
 plus_bounded : (m : ℕ) (x y : Amount) → Bounded m x → Bounded 1 y → Bounded (suc m) (plus x y)
 plus_bounded m x y a b = ((omega (arith, ints, a, b), omega (arith, ints, a, b)), (omega (arith, ints, a, b), omega (arith, ints, a, b)))
@@ -35,12 +34,12 @@ where_bounded : (t : Bool) (x : Amount) → Bounded 1 x → Bounded 1 (where_so 
 where_bounded true x h = h
 where_bounded false x h = none_bounded
 
-fits : (m : ℕ) (x : Amount) → m ≤ 2 ^ 28 → Bounded m x → FitsPair x
+fits : (m : ℕ) (x : Amount) → m ≤ 2 ^ 37 → Bounded m x → FitsPair x
 fits m x l b = (omega (arith, ints, l, b), omega (arith, ints, l, b))
 
 -- ---- the sums of a check
 
-ends_fit : (start : Amount) (end : ℕ → ℕ) (f : ℕ → Amount) (b m : ℕ) → m ≤ MOST_PAIRS → IsSmall start → ((k : ℕ) → k < m → IsSmall (f k)) → EndFits start end f b m
+ends_fit : (start : Amount) (end : ℕ → ℕ) (f : ℕ → Amount) (b m : ℕ) → m ≤ 2 ^ 36 → IsSmall start → ((k : ℕ) → k < m → IsSmall (f k)) → EndFits start end f b m
 ends_fit start end f b m few s h k l e =
     let sum = sum_bounded (λ j. where_so (end j == b) (f j)) k (λ j i. where_bounded (end j == b) (f j) (small_bounded (f j) (h j (omega (arith, i, l))))) in
     let a = small_bounded start s in

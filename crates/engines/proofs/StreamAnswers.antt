@@ -1,4 +1,4 @@
--- From the header of a certificate and what stands behind it to what is judged, where the device tells its bytes.
+-- From the header of a certificate and what stands after it to what is judged, where the device tells its bytes.
 use Rattle.std.proofs.Common.{◌≡◌, ◌≢◌, ℕ, ℤ, ◌≤◌, List, Option, Some, None, Result, Ok, Err, sym, ap, ◌∙◌, subst, arith, IfSome}
 use Rattle.fixed_worth.specs.declared.limits.TheConstants.{MOST_FACTOR}
 use Rattle.prec_file.specs.Rests.{RestsView}
@@ -19,7 +19,7 @@ use Rattle.mine_inputs.proofs.MinesRead.{read_as}
 use Rattle.engines.proofs.Answered.{JudgedBy}
 use Rattle.engines.proofs.HeaderPrices.{header_price}
 
--- a header was read of the text, and these lines stand behind it
+-- a header was read of the text, and these lines stand after it
 abbrev pub HasHeader : {R : Type 0} → (R → Option (List ℕ)) → LineView R → Header → List ℕ → Type 0
 HasHeader remaining s h c = (header_of (pieces_of c) ≡ Ok h) × StandsBehind remaining c s
 

@@ -23,7 +23,8 @@ use Rattle.engines.specs.Prelude.{IsHeader, IsGroupNamed, TextBegins, lines_for,
 use Rattle.engines.proofs.Judged.{HasRead, text_fails}
 use Rattle.engines.proofs.HeaderAnswers.{consumed}
 
--- The text of a certificate whose header was read. What was read behind it is the body so far; and so many bytes are left.
+-- The text of a certificate whose header was read. What was read after it is the body so far; and so many bytes are
+-- left.
 pub record IsSplit (name : Group) (net : NetView) (text body left : List ℕ) (price : Price) (taken : ℕ) : Type 0 where
   pub header : header_for (wanted_for (length net.worths) name) (pieces_of text) ≡ Ok (record { blocks = length net.worths; price = price; group = name })
   pub behind : drop 4 (pieces_of text) ≡ pieces_of (body ++ left)

@@ -34,7 +34,7 @@ use Rattle.mine_inputs.specs.declared.columns_of_prices.PriceColumns.{PriceColum
 use Rattle.mine_inputs.specs.declared.columns_of_prices.PriceColumns.TheVariants.{Plain, Treated}
 use Rattle.shells.specs.declared.prices_fault.PricesFault.TheVariants as prices_fault
 use Rattle.mine_inputs.specs.Prelude.{price_keys, slope_keys, sloped_keys, columns_by, columns_said, cell, cells, table_at, way_cells, placed_in, prices_alone, prices_and_slopes, table_of, KeysSaid, Wanted, PricesReadBy, PricesFailBy, SettingsFails, SlopesFail, SlopesRead, MineTexts, mine_texts, priced_texts, sloped_texts, ValuesRead, WorthsRead, RestsRead, PrecedenceRead, mine_of, DenoteMine, MineSlopesFail, PrecFails, PrecedenceFails, ValuesFail, SettingsFail, BlocksFail, TableFails}
-use Rattle.engines.specs.Prelude.{block_by, counts_by, IsHeader, Reads, ModelFails, HeaderFails, BodyTextFails, PriceDiffers}
+use Rattle.engines.specs.Prelude.{block_by, counts_by, IsHeader, IsTooManyToList, Reads, ModelFails, HeaderFails, BodyTextFails, PriceDiffers}
 use Rattle.mine_inputs.proofs.Priced.{priced_at}
 use Rattle.engines.proofs.Alone.{ok_same, nets_same}
 use Rattle.engines.proofs.Fitting.{no_model_fails}
@@ -166,23 +166,24 @@ rests_stand (sloped_texts s b k) n q r h = h
 pub prec_read : (texts : MineTexts) (certificate : List ℕ) (n : ℕ) (q : Problem PrecFault) → Reads texts certificate → WorthsRead texts n → PrecedenceFails texts n q → ⊥
 prec_read texts certificate n q r v h = rests_stand texts n q (subst (RestsRead texts) (one_size texts r.blocks n r.mine.worths_read v) r.mine.rests_read) h
 
-slopes_right : (said : SettingsView) (m : BlocksView) (q : SlopeProblem) → SlopesRead said m → SlopesFail said m q → ⊥
+-- nothing is wrong with the slopes that were read; they may give more pairs than a list may have
+slopes_right : (said : SettingsView) (m : BlocksView) (q : SlopeProblem) → SlopesRead said m → SlopesFail said m q → IsTooManyToList q
 slopes_right said m (of.Pattern f) r h = h
 slopes_right said m (of.Pairs f) r h = h
-slopes_right said m (of.Regions (region.SamePlace b c)) r h = r.placed.apart b c h.earlier h.known h.same
-slopes_right said m (of.Regions (region.UnknownRegion b)) r h = let first = h.1 in first.outside (r.placed.regions b first.known)
-slopes_right said m (of.Regions (region.NotUpward q i)) r h = let first = h.1 in first.first.2 (r.upward q first.known i (pos 0, pos 0, pos 0) first.first.0)
+slopes_right said m (of.Regions (region.SamePlace b c)) r h = absurd (r.placed.apart b c h.earlier h.known h.same)
+slopes_right said m (of.Regions (region.UnknownRegion b)) r h = let first = h.1 in absurd (first.outside (r.placed.regions b first.known))
+slopes_right said m (of.Regions (region.NotUpward q i)) r h = let first = h.1 in absurd (first.first.2 (r.upward q first.known i (pos 0, pos 0, pos 0) first.first.0))
 slopes_right said m (of.Regions (region.TooManyOffsets q)) r h = let wide = h.2 in let many = wide.many in omega (arith, many, r.few_offsets q wide.known)
 slopes_right said m (of.Regions region.TooManyRegions) r h = let few = r.few_regions in omega (arith, few, h.3)
-slopes_right said m (of.Regions region.TooMany) r h = r.few_pairs h.4
+slopes_right said m (of.Regions region.TooMany) r h = tt
 slopes_right said m (of.Regions region.NoMemory) r h = h
 
-slopes_stand : (texts : MineTexts) (n : ℕ) (q : SlopeProblem) → RestsRead texts n → MineSlopesFail texts q → ⊥
-slopes_stand (mine_texts u p) n q r h = h
-slopes_stand (priced_texts s b p k) n q r h = h
+slopes_stand : (texts : MineTexts) (n : ℕ) (q : SlopeProblem) → RestsRead texts n → MineSlopesFail texts q → IsTooManyToList q
+slopes_stand (mine_texts u p) n q r h = absurd h
+slopes_stand (priced_texts s b p k) n q r h = absurd h
 slopes_stand (sloped_texts s b k) n q r h = slopes_right (settings_of s) (placed_in (settings_of s) b) q r h
 
-pub slopes_read : (texts : MineTexts) (certificate : List ℕ) (q : SlopeProblem) → Reads texts certificate → MineSlopesFail texts q → ⊥
+pub slopes_read : (texts : MineTexts) (certificate : List ℕ) (q : SlopeProblem) → Reads texts certificate → MineSlopesFail texts q → IsTooManyToList q
 slopes_read texts certificate q r h = slopes_stand texts r.blocks q r.mine.rests_read h
 
 pub price_read : (texts : MineTexts) (certificate : List ℕ) (n : ℕ) → Reads texts certificate → PriceDiffers texts certificate n → ⊥

@@ -7,8 +7,8 @@ use Rattle.check_pit.specs.declared.pit_fault.PitFault.{PitFault}
 use Rattle.engines.specs.declared.certification.Uncertified.{Uncertified}
 use Rattle.engines.specs.declared.certification.Uncertified.TheVariants.{NoMemory, Refused}
 
--- The flow proves the pit, which is what the source reaches in it: no closed set of the net sums to more. It has so many blocks, which
--- are worth so many billionths; `set_worth` gives the worth of a sum of the net's amounts.
+-- The flow proves the pit, which is what the source reaches in it: no closed set of the net sums to more. It has so
+-- many blocks, which are worth so many billionths; `set_worth` gives the worth of a sum of the net's amounts.
 pub record IsSolution (set_worth : Amount → ℕ → ℕ → ℤ) (net : NetView) (flow : FlowView) (pit : List ℕ) (count : ℕ) (worth : ℤ) : Type 0 where
   pub sound : IsSound net flow pit
   pub reached : IsReached net flow (holds_of pit)
@@ -17,7 +17,8 @@ pub record IsSolution (set_worth : Amount → ℕ → ℕ → ℤ) (net : NetVie
   pub count_is : count ≡ length pit
   pub worth_is : worth ≡ set_worth (group_worth net.worths (holds_of pit)) (length net.worths) count
 
--- The fault stands for the flow and a pit; where the flow has the net's lengths, the pit is what the source reaches in it.
+-- The fault stands for the flow and a pit; where the flow has the net's lengths, the pit is what the source reaches in
+-- it.
 pub record IsRefusedFlow (net : NetView) (flow : FlowView) (fault : PitFault) : Type 0 where
   pub pit : List ℕ
   pub stands : PitFaultStands net flow pit fault

@@ -12,6 +12,9 @@ use Rattle.engines.specs.declared.judgement.Verdict.TheVariants.{Done, No}
 use Rattle.mine_inputs.specs.declared.engine_fault.EngineFault.{EngineFault}
 use Rattle.mine_inputs.specs.declared.engine_fault.EngineFault.TheVariants as engine
 use Rattle.mine_inputs.specs.declared.engine_fault.CertificateProblem.TheVariants as certificate
+use Rattle.mine_inputs.specs.declared.engine_fault.SlopeProblem.{SlopeProblem}
+use Rattle.mine_inputs.specs.declared.engine_fault.SlopeProblem.TheVariants as of
+use Rattle.slope.specs.declared.region_fault.RegionFault.TheVariants as region
 use Rattle.mine_inputs.specs.Prelude.{IsTooLong, MineTexts}
 use Rattle.engines.specs.Readings.{Reads, counts_by}
 use Rattle.engines.specs.Refusals.{SomeSumLeaves}
@@ -54,10 +57,17 @@ Checks texts certificate old new (Ok Done) = WritesAccepted texts certificate ol
 Checks texts certificate old new (Ok No) = WritesRefused texts certificate old new
 Checks texts certificate old new (Err fault) = Fails texts certificate fault × WritesAtFault texts certificate old new fault
 
--- what keeps a sound certificate from being accepted: memory, a device, or its own length
+-- there are more pairs than a list may have, and a list had to be made
+abbrev pub IsTooManyToList : SlopeProblem → Type 0
+IsTooManyToList (of.Regions region.TooMany) = Unit {0}
+IsTooManyToList _ = ⊥
+
+-- what keeps a sound certificate from being accepted: memory, a device, the certificate's own length, or more pairs
+-- than a list may have where one has to be made
 abbrev pub Hinders : List ℕ → EngineFault → Type 0
 Hinders text engine.Memory = Unit {0}
 Hinders text engine.Device = Unit {0}
+Hinders text (engine.Slope problem) = IsTooManyToList problem
 Hinders text (engine.Certificate certificate.InputTooLong) = IsTooLong text
 Hinders text _ = ⊥
 
@@ -67,6 +77,7 @@ AcceptsUnlessHindered text leaves (Ok Done) = Unit {0}
 AcceptsUnlessHindered text leaves (Ok No) = leaves
 AcceptsUnlessHindered text leaves (Err fault) = Hinders text fault
 
--- A certificate whose flow is one and whose pit is closed and tight is accepted, where each sum over its first lines fits.
+-- A certificate whose flow is one and whose pit is closed and tight is accepted, where each sum over its first lines
+-- fits.
 abbrev pub SoundIsAccepted : MineTexts → List ℕ → Result Verdict EngineFault → Type 0
 SoundIsAccepted texts certificate answer = (read : Reads texts certificate) → ProvesPit read.net read.flow read.pit → AcceptsUnlessHindered certificate (SomeSumLeaves (counts_by read.group) read.net certificate) answer

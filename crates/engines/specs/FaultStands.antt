@@ -43,14 +43,15 @@ HeaderFails text n fault = (header_of (pieces_of text) ≡ Err fault) ⊎ ((head
 abbrev pub PriceDiffers : MineTexts → List ℕ → ℕ → Type 0
 PriceDiffers texts certificate n = (header : Header) × (header_of (pieces_of certificate) ≡ Ok header) × (header.blocks ≡ n) × (header.price ≢ price_wanted texts)
 
--- The certificate is too long; or its price is of another kind; or it has this fault, which is told where it is read, however long
--- the text is.
+-- The certificate is too long; or its price is of another kind; or it has this fault, which is told where it is read,
+-- however long the text is.
 abbrev pub CertificateFails : MineTexts → List ℕ → ℕ → CertificateProblem → Type 0
 CertificateFails texts certificate n certificate_problem.InputTooLong = IsTooLong certificate
 CertificateFails texts certificate n certificate_problem.WrongPrice = PriceDiffers texts certificate n
 CertificateFails texts certificate n (certificate_problem.Fault fault) = HeaderFails certificate n fault ⊎ BodyTextFails texts certificate n fault
 
--- Why a check answers a fault: one of the texts of the mine; or, where they are read, one of the certificate's or of the mine's net.
+-- Why a check answers a fault: one of the texts of the mine; or, where they are read, one of the certificate's or of
+-- the mine's net.
 abbrev pub Fails : MineTexts → List ℕ → EngineFault → Type 0
 Fails texts certificate (engine.Model fault) = (n : ℕ) × DenoteMine texts n × (group : Group) × IsHeader texts certificate n group × ModelFails texts n group fault
 Fails texts certificate (engine.Certificate p) = (n : ℕ) × DenoteMine texts n × CertificateFails texts certificate n p

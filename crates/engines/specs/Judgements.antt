@@ -10,7 +10,8 @@ use Rattle.mine_inputs.specs.Prelude.{IsWithinLimit, MineTexts, DenoteMine, mine
 use Rattle.engines.specs.Readings.{Reads, IsProvedPit, block_by, counts_by, IsHeader}
 use Rattle.engines.specs.Refusals.{TextRefused}
 
--- The texts denote a mine and a certificate whose flow proves its pit; that pit has so many blocks and is worth so much.
+-- The texts denote a mine and a certificate whose flow proves its pit; that pit has so many blocks and is worth so
+-- much.
 pub record CertificateAccepted (texts : MineTexts) (certificate : List ℕ) (name : Group) (blocks : ℕ) (nanos : ℤ) : Type 0 where
   pub within : IsWithinLimit certificate
   pub read : Reads texts certificate
@@ -20,7 +21,8 @@ pub record CertificateAccepted (texts : MineTexts) (certificate : List ℕ) (nam
   pub count : block_count_of (mine_of read.blocks texts) (holds_of read.pit) ≡ blocks
   pub worth : worth_of (mine_of read.blocks texts) (holds_of read.pit) ≡ nanos
 
--- The texts denote a mine and its net, and the header of the certificate is one for it; and the certificate doesn't prove its pit, for this reason.
+-- The texts denote a mine and its net, and the header of the certificate is one for it; and the certificate doesn't
+-- prove its pit, for this reason.
 pub record CertificateRefused (texts : MineTexts) (certificate : List ℕ) (fault : PitFault) : Type 0 where
   pub blocks : ℕ
   pub mine : DenoteMine texts blocks

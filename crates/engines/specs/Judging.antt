@@ -49,7 +49,7 @@ pub record IsUndecided {R : Type 0} (s : CertView R) : Type 0 where
   pub fault : s.fault ≡ None
   pub undone : s.is_done ≡ false
 
--- the header of this text was read: the lines behind it are in what is held and what the device has left
+-- the header of this text was read: the lines after it are in what is held and what the device has left
 pub record StandsBehind {R : Type 0} (remaining : R → Option (List ℕ)) (text : List ℕ) (s : LineView R) : Type 0 where
   pub left : List ℕ
   pub known : remaining s.from ≡ Some left

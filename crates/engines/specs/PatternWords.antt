@@ -27,7 +27,7 @@ cone_of _ = None
 abbrev pub plain_pattern_of : List ℕ → Option PatternChoice
 plain_pattern_of name = cond (bytes_eq name (codes "five")) (Some Five) (cond (bytes_eq name (codes "nine")) (Some Nine) None)
 
--- the pattern that a name gives with the pieces behind it
+-- the pattern that a name gives with the pieces after it
 abbrev pub pattern_with : List (List ℕ) → Option PatternChoice
 pattern_with [] = None
 pattern_with (name ∷ []) = plain_pattern_of name

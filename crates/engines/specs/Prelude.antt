@@ -1,6 +1,6 @@
 -- The names of this crate that its proofs and the crates above it use, each from its own file.
 pub use Rattle.engines.specs.Certification.{IsRefusedFlow, IsSolution, UncertifiedStands}
-pub use Rattle.engines.specs.Checking.{AcceptsUnlessHindered, Checks, Hinders, LineFails, SoundIsAccepted, WritesAccepted, WritesAtFault, WritesFront, WritesRefused}
+pub use Rattle.engines.specs.Checking.{AcceptsUnlessHindered, Checks, Hinders, IsTooManyToList, LineFails, SoundIsAccepted, WritesAccepted, WritesAtFault, WritesFront, WritesRefused}
 pub use Rattle.engines.specs.FaultStands.{BodyTextFails, CertificateFails, Fails, HeaderFails, ModelFails, NetFails, PriceDiffers}
 pub use Rattle.engines.specs.Judgements.{CertificateAccepted, CertificateRefused, IsJudged}
 pub use Rattle.engines.specs.Judging.{IsFresh, IsUndecided, Judges, StandsBehind, factor_in, factor_named, of_stream}

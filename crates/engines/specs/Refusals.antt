@@ -22,11 +22,13 @@ flow_for counts net text = flow_of (length net.worths) net.pairs (lines_for coun
 abbrev pub TextBegins : Bool → NetView → List ℕ → List BodyLine → Type 0
 TextBegins counts net text ls = (more : List BodyLine) × (lines_for counts net text ≡ ls ++ more)
 
--- a line of the certificate's body is refused after the lines before it, of which none has an amount that is negative or too large
+-- a line of the certificate's body is refused after the lines before it, of which none has an amount that is negative
+-- or too large
 abbrev pub TextRefusesLine : Bool → NetView → List ℕ → PitFault → Type 0
 TextRefusesLine counts net text e = (ls : List BodyLine) × (l : BodyLine) × TextBegins counts net text (ls ++ l ∷ []) × KeepLimits net.worths ls × LineRefused net ls l e
 
--- some first lines have a sum that doesn't fit: the balance of a block, the worth of the pit, or what the source could still give
+-- some first lines have a sum that doesn't fit: the balance of a block, the worth of the pit, or what the source could
+-- still give
 abbrev pub SomeSumLeaves : Bool → NetView → List ℕ → Type 0
 SomeSumLeaves counts net text = (ls : List BodyLine) × TextBegins counts net text ls × SomeLineSumOverflows net ls
 
@@ -34,14 +36,15 @@ SomeSumLeaves counts net text = (ls : List BodyLine) × TextBegins counts net te
 abbrev pub IsFaultless : Bool → Group → NetView → List ℕ → Type 0
 IsFaultless counts name net text = IsWithinLimit text × (fault_of counts name (length net.worths) net.pairs text ≡ None)
 
--- The pit that the PIT lines say with which the lines begin. A text without a fault has no others, since a PIT line behind
--- another line is one.
+-- The pit that the PIT lines say with which the lines begin. A text without a fault has no others, since a PIT line
+-- after another line is one.
 pub record SaysPit (counts : Bool) (name : Group) (net : NetView) (text pit : List ℕ) : Type 0 where
   pub first : pit_of (first_pits (lines_for counts net text)) ≡ pit
   pub all : fault_of counts name (length net.worths) net.pairs text ≡ None → pit_of (lines_for counts net text) ≡ pit
 
--- Each fault stands. An amount that is negative or too large is the first such one, and a sum that doesn't fit is one over
--- the lines so far; the pit of the PIT lines is open, whatever stands behind them; the balances and the pit's worth are told where the whole text is read.
+-- Each fault stands. An amount that is negative or too large is the first such one, and a sum that doesn't fit is one
+-- over the lines so far; the pit of the PIT lines is open, whatever stands after them; the balances and the pit's
+-- worth are told where the whole text is read.
 abbrev pub TextRefused : Bool → Group → NetView → List ℕ → PitFault → Type 0
 TextRefused counts name net text WrongSize = ⊥
 TextRefused counts name net text (NotClosed b p) = (pit : List ℕ) × SaysPit counts name net text pit × IsFirstOpen net.pairs (holds_of pit) (b, p)

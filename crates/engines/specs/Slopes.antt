@@ -54,8 +54,8 @@ abbrev pub ListFails : List Offset → PatternFault → Type 0
 ListFails listed pattern.NoMemory = ⊥
 ListFails listed fault = ListFaultStands listed fault
 
--- the keys that settings need to give slopes, where they name none by region: slopes, where they name the column of regions, and
--- otherwise offsets
+-- the keys that settings need to give slopes, where they name none by region: slopes, where they name the column of
+-- regions, and otherwise offsets
 abbrev pub offset_keys : SettingsView → List Key
 offset_keys s = cond (is_said s Slopes) [] (cond (is_said s Region) (Slopes ∷ []) (Offsets ∷ []))
 
@@ -141,7 +141,8 @@ abbrev pub SlopesSaidFail : Option (List (List Offset)) → SettingsView → Lis
 SlopesSaidFail None said text up selection fault = PatternSlopesFail (AreOffsets (Contains (listed_offsets said))) (ListFails (listed_offsets said)) text up selection fault
 SlopesSaidFail (Some slopes) said text up selection fault = RegionSlopesFail slopes (region_columns said) text up selection fault
 
--- Why an engine answers a fault: it stands, and none before it does. Want of memory and a failing device say nothing of the texts.
+-- Why an engine answers a fault: it stands, and none before it does. Want of memory and a failing device say nothing of
+-- the texts.
 abbrev pub ListedSlopesFail : List ℕ → List ℕ → Up → Selection → EngineFault → Type 0
 ListedSlopesFail settings text up selection (engine.Settings p) = SettingsFails offset_keys [] settings p
 ListedSlopesFail settings text up selection engine.Memory = Unit {0}

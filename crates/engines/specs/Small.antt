@@ -3,9 +3,9 @@ use Rattle.std.specs.Prelude.{ℕ, ℤ, pos, neg_ℤ, ◌≤ℤ◌, ◌<ℤ◌, 
 use Rattle.ordered_group.specs.Prelude.{Amount, amount_at}
 use Rattle.closure_net.specs.Network.{NetView, FlowView}
 
--- the number lies between -2^96 and 2^96
+-- the number lies between -2^88 and 2^88
 abbrev pub IsSmallNumber : ℤ → Type 0
-IsSmallNumber z = (neg_ℤ (pos (2 ^ 96)) ≤ℤ z) × (z ≤ℤ pos (2 ^ 96))
+IsSmallNumber z = (neg_ℤ (pos (2 ^ 88)) ≤ℤ z) × (z ≤ℤ pos (2 ^ 88))
 
 -- both numbers of the amount do
 abbrev pub IsSmall : Amount → Type 0

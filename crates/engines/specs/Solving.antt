@@ -49,7 +49,8 @@ MachineStands net limit NoMemory = Unit {0}
 MachineStands net limit NoThread = Unit {0}
 MachineStands net limit Stranger = Unit {0}
 
--- whether pseudoflow may give up on a net: it alone was asked for, or the machine isn't tried after it, since there are too many blocks
+-- whether pseudoflow may give up on a net: it alone was asked for, or the machine isn't tried after it, since there are
+-- too many blocks
 abbrev pub MayGiveUp : NetView → Method → Type 0
 MayGiveUp net method = ends_with_pseudoflow method (length net.worths) ≡ true
 
@@ -94,7 +95,8 @@ pub record IsTextOf (name : Group) (price : Price) (net : NetView) (text : List 
 abbrev pub IsDueFor : Group → Price → NetView → Method → ℕ → List ℕ → Type 0
 IsDueFor name price net method limit text = IsTextOf name price net text ⊎ IsNoOf net method limit text
 
--- what is written with it: all of it, or nothing where memory or a thread is wanted, or a front of it where a device fails
+-- what is written with it: all of it, or nothing where memory or a thread is wanted, or a front of it where a device
+-- fails
 abbrev pub SolvesNet : Bool → Group → Price → NetView → Method → ℕ → Option (List ℕ) → Option (List ℕ) → Result Verdict EngineFault → Type 0
 SolvesNet counts name price net method limit old new (Ok verdict) = (text : List ℕ) × AnswersNet counts name price net method limit verdict text × Appends old new text
 SolvesNet counts name price net method limit old new (Err engine.Memory) = Keeps old new
@@ -105,7 +107,8 @@ SolvesNet counts name price net method limit old new (Err _) = ⊥
 
 -- ---- the texts of a mine
 
--- The texts denote a mine, and this one a certificate for it whose flow proves its pit: a check accepts it where it isn't too long to be read.
+-- The texts denote a mine, and this one a certificate for it whose flow proves its pit: a check accepts it where it
+-- isn't too long to be read.
 pub record IsCertificate (texts : MineTexts) (name : Group) (text : List ℕ) : Type 0 where
   pub read : Reads texts text
   pub group : read.group ≡ name
@@ -123,8 +126,8 @@ abbrev pub AnswersMine : MineTexts → Group → Method → ℕ → Verdict → 
 AnswersMine texts name method limit Done text = IsCertificate texts name text
 AnswersMine texts name method limit No text = (net : NetView) × IsNetBy texts name net × IsNoOf net method limit text
 
--- Why the engine answers a fault: it is one of the texts, or, where they are read, one of the mine's net. Want of a thread and a board
--- that comes back as another's say that the texts denote a mine, whose run was begun.
+-- Why the engine answers a fault: it is one of the texts, or, where they are read, one of the mine's net. Want of a
+-- thread and a board that comes back as another's say that the texts denote a mine, whose run was begun.
 abbrev pub SolveFails : MineTexts → Group → EngineFault → Type 0
 SolveFails texts name (engine.Model fault) = (n : ℕ) × DenoteMine texts n × ModelFails texts n name fault
 SolveFails texts name engine.Thread = (n : ℕ) × DenoteMine texts n

@@ -39,13 +39,13 @@ pub(crate) struct Case<'a, R> {
     pub(crate) mine: HeldMine,
 }
 
-/// What the certificate that a device gives proves for a mine that was read, or why it can't be judged. Where the blocks have
-/// prices they are worth what these give at the factor that the certificate names. It is read line by line, up to its end or
-/// to its first fault, from a stream that holds the device meanwhile. The device is handed back.
+/// What the certificate that a device gives proves for a mine that was read, or why it can't be judged. Where the
+/// blocks have prices they are worth what these give at the factor that the certificate names. It is read line by line,
+/// up to its end or to its first fault, from a stream that holds the device meanwhile. The device is handed back.
 ///
 /// # Errors
-/// `Certificate` with the first fault of the certificate, `WrongPrice` among them; `Model` where an amount of the net doesn't fit;
-/// `Device` where a read fails, and `Memory` where memory is refused.
+/// `Certificate` with the first fault of the certificate, `WrongPrice` among them; `Model` where an amount of the net
+/// doesn't fit; `Device` where a read fails, and `Memory` where memory is refused.
 pub(crate) fn judge<R: Threads + Sync, C: CountedRead>(
     device: C,
     case: Case<'_, R>,
@@ -106,7 +106,8 @@ struct PricedBlocks {
     nanos: Vec<i128>,
 }
 
-/// A mine whose blocks are worth so many billionths by the header of a certificate, which counts in amounts of this group.
+/// A mine whose blocks are worth so many billionths by the header of a certificate, which counts in amounts of this
+/// group.
 #[derive(Drop)]
 pub struct PricedMine {
     /// The group of the certificate's amounts.
@@ -125,8 +126,8 @@ struct PricedHeld {
     predecessors: HeldPairs,
 }
 
-// Reads the header of a certificate for a mine of so many blocks, and gives what they are worth by it. The values or prices are
-// given back.
+// Reads the header of a certificate for a mine of so many blocks, and gives what they are worth by it. The values or
+// prices are given back.
 fn price_blocks<R: Threads + Sync, C: CountedRead>(
     rt: &R,
     alloc: Global,
@@ -163,12 +164,12 @@ fn price_blocks<R: Threads + Sync, C: CountedRead>(
     })
 }
 
-/// Reads the header of a certificate for a mine, and gives what its blocks are worth by it. The values or prices are given
-/// back.
+/// Reads the header of a certificate for a mine, and gives what its blocks are worth by it. The values or prices are
+/// given back.
 ///
 /// # Errors
-/// `Certificate` with the first fault of the header, where it has another number of blocks, or with `WrongPrice`; `Device`
-/// where a read fails, and `Memory` where memory is refused.
+/// `Certificate` with the first fault of the header, where it has another number of blocks, or with `WrongPrice`;
+/// `Device` where a read fails, and `Memory` where memory is refused.
 pub fn price_mine<R: Threads + Sync, C: CountedRead>(
     rt: &R,
     alloc: Global,
@@ -275,8 +276,8 @@ fn judgement_of(fault: StreamFault) -> Result<Judgement, EngineFault>
 /// What the certificate proves, where its header is read and the blocks are worth so many billionths by it.
 ///
 /// # Errors
-/// `Certificate` with the first fault behind the header; `Model` where an amount of the net doesn't fit; `Device` where a read
-/// fails, and `Memory` where memory is refused.
+/// `Certificate` with the first fault after the header; `Model` where an amount of the net doesn't fit; `Device` where
+/// a read fails, and `Memory` where memory is refused.
 pub fn judge_priced<C: CountedRead>(
     alloc: Global,
     mine: PricedMine,
@@ -339,7 +340,7 @@ fn judge_held<C: CountedRead>(
     }
 }
 
-// Judges the stream behind its header for this mine, in amounts of the group G.
+// Judges the stream after its header for this mine, in amounts of the group G.
 fn judge_by<G: OrderedGroup, C: CountedRead>(
     alloc: Global,
     mine: PricedHeld,

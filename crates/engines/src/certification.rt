@@ -38,8 +38,8 @@ pub enum Uncertified {
 /// needs no proof of being right.
 ///
 /// # Errors
-/// `Refused` with the check's fault, which stands: `WrongSize` where the flow's lengths aren't the net's, before all else.
-/// `NoMemory` where memory is refused.
+/// `Refused` with the check's fault, which stands: `WrongSize` where the flow's lengths aren't the net's, before all
+/// else. `NoMemory` where memory is refused.
 pub fn certified<G: OrderedGroup>(
     alloc: Global,
     net: &Net<G>,

@@ -15,15 +15,16 @@ pub struct Effort {
     pub workers: u32,
     /// The most steps.
     pub steps: u64,
-    /// The most turns of pseudoflow. No answer's meaning depends on them: where they don't do, nothing is said of the mine.
+    /// The most turns of pseudoflow. No answer's meaning depends on them: where they don't do, nothing is said of the
+    /// mine.
     pub turns: u64,
     ghost some: { 1 ≤ workers },
     ghost few: { workers ≤ MOST_WORKERS },
 }
 
 impl Effort {
-    /// This method, with `workers` threads, from 1 to 64, at most `steps` steps of the machine, and at most `turns` turns of
-    /// pseudoflow.
+    /// This method, with `workers` threads, from 1 to 64, at most `steps` steps of the machine, and at most `turns`
+    /// turns of pseudoflow.
     pub fn new(method: Method, workers: u32, steps: u64, turns: u64) -> Effort
         requires some { 1 ≤ workers }
         requires few { workers ≤ MOST_WORKERS }

@@ -1,8 +1,8 @@
 //! Writes the line of a fault, which names the input and what is wrong with it, without taking memory. Gives the exit
 //! status of an engine's answer.
 //!
-//! Each fault's text is here a second time, beside its `Display`: the kit's `fmt::Write` says what was written only on `Ok`,
-//! and this line must not fail.
+//! Each fault's text is here a second time, beside its `Display`: the kit's `fmt::Write` says what was written only on
+//! `Ok`, and this line must not fail.
 
 ghost use Rattle.std.specs.Prelude.{◌≡◌, ◌+◌, ◌-◌, ◌^◌, ◌<◌, ◌≤◌, ◌++◌, length, OnOk, OnErr};
 ghost use Rattle.std.specs.Io.KnownBytes.{Appends};
@@ -80,7 +80,7 @@ fn push_words(line: &mut ShortLine, fault: &EngineFault)
     push_problem(line, fault);
 }
 
-// The word for what has the fault, with a space behind it. What the machine fails at has none.
+// The word for what has the fault, with a space after it. What the machine fails at has none.
 fn input_word(fault: &EngineFault) -> &'static str
     ensures word { result.now ≡ input_word fault.now }
     ensures short { length result.now ≤ 12 }

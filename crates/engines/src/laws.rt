@@ -1,6 +1,6 @@
 //! Laws that accepted pits at rising factors are nested, and that a slope's reduced pairs have the same best pit as
-//! all of its pairs, also as files, and that certificates over a mine by slopes are those over the mine by their pairs; each is
-//! the contract of a function that does nothing.
+//! all of its pairs, also as files, and that certificates over a mine by slopes are those over the mine by their pairs;
+//! each is the contract of a function that does nothing.
 
 ghost use Rattle.engines.specs.Nested.{AcceptedAreNested};
 ghost use Rattle.engines.specs.Reduced.{ReducedPairsDecide, ReducedTextsDecide};
@@ -12,20 +12,20 @@ pub fn accepted_pits_are_nested()
     ensures { AcceptedAreNested }
 {}
 
-/// Of the pairs that a pattern gives the reduced ones decide as every one does: a set is the best pit by them exactly where
-/// it is the best pit by all.
+/// Of the pairs that a pattern gives the reduced ones decide as every one does: a set is the best pit by them exactly
+/// where it is the best pit by all.
 pub fn reduced_pairs_decide()
     ensures { ReducedPairsDecide }
 {}
 
-/// The file of the reduced pairs and that of every pair denote mines with the same best pit, of whatever blocks are worth. A
-/// certificate over the one needn't be one over the other: it may name a pair that the other lacks.
+/// The file of the reduced pairs and that of every pair denote mines with the same best pit, of whatever blocks are
+/// worth. A certificate over the one needn't be one over the other: it may name a pair that the other lacks.
 pub fn reduced_texts_decide()
     ensures { ReducedTextsDecide }
 {}
 
-/// A mine by the slopes that settings list, and the same mine by the precedence file of all pairs that these slopes give: the
-/// same bytes are accepted as a certificate over both, with one count and one worth.
+/// A mine by the slopes that settings list, and the same mine by the precedence file of all pairs that these slopes
+/// give: the same bytes are accepted as a certificate over both, with one count and one worth.
 pub fn slopes_are_their_pairs()
     ensures { SlopesAreTheirPairs }
 {}

@@ -1,10 +1,10 @@
 //! The engines of the program: bytes in, bytes out, and what each answer means.
 //!
 //! Puts together the crates of files, nets, solvers and checks, which hand each other typed values. An engine reads its
-//! inputs one after another, does its work, and writes one text; its contract says which text for which bytes. Each input
-//! is read to its end, except a certificate that is checked, which is read up to its first fault. The arguments that name a
-//! pattern, a kind of amount or an effort are read here too, and a fault is written as one line. The library of the command
-//! line is kept out: the program `pit` opens the files and hands them on.
+//! inputs one after another, does its work, and writes one text; its contract says which text for which bytes. Each
+//! input is read to its end, except a certificate that is checked, which is read up to its first fault. The arguments
+//! that name a pattern, a kind of amount or an effort are read here too, and a fault is written as one line. The
+//! library of the command line is kept out: the program `pit` opens the files and hands them on.
 #![tactic(auto)]
 
 pub mod certificate_judge;

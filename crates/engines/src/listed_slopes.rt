@@ -1,4 +1,5 @@
-//! The engine of `slopes` for offsets that settings list: the bytes of settings and blocks in, those of a precedence out.
+//! The engine of `slopes` for offsets that settings list: the bytes of settings and blocks in, those of a precedence
+//! out.
 
 ghost use Rattle.std.specs.Prelude.{◌≡◌, ◌+◌, ◌-◌, ◌^◌, ◌<◌, Contains, map, IfSome, IsErrOf};
 ghost use Rattle.slope.specs.Offsets.{AreOffsets};
@@ -29,12 +30,12 @@ struct PairsAsked {
 /// their end, then the blocks; then the pairs are made, and nothing is written before all are known.
 ///
 /// # Errors
-/// In this order: `Settings` for a fault of this text, or where it lists no offsets, or names the column of regions and not
-/// their slopes; `Blocks`; `Slope`. Of one list of
-/// offsets that is the first offset that doesn't lead up, more than 4,096 offsets, two blocks at one place, or more than
-/// 2^27 of these pairs; of slopes by region the first fault of `predecessors_by_region`.
-/// `Memory` where memory is refused, `Device` where a read or a write fails: the writer has then received a front of the
-/// text, and at every other fault nothing.
+/// In this order: `Settings` for a fault of this text, or where it lists no offsets, or names the column of regions and
+/// not their slopes; `Blocks`; `Slope`. Of one list of
+/// offsets that is the first offset that doesn't lead up, more than 4,096 offsets, two blocks at one place, or more
+/// than 2^27 of these pairs; of slopes by region the first fault of `predecessors_by_region`.
+/// `Memory` where memory is refused, `Device` where a read or a write fails: the writer has then received a front of
+/// the text, and at every other fault nothing.
 ///
 /// Each device must have counted fewer than 2^64 - 1 failures, so that one more can be counted.
 pub fn slopes_from_settings_engine<S: CountedRead, B: CountedRead, W: CountedWrite>(

@@ -6,8 +6,8 @@ ghost use Rattle.engines.specs.Methods.{method_of, begins_with_pseudoflow, ends_
 /// Which solver computes a mine's flow. Whichever does, a check decides before anything is written.
 #[derive(Clone, Copy, Debug, PartialEq, Eq)]
 pub enum Method {
-    /// The push-relabel machine for a mine of at most 1,000 blocks, and pseudoflow where a number of its run doesn't fit;
-    /// for a larger one pseudoflow, and up to 10,000 blocks the machine where that gives no certificate.
+    /// The push-relabel machine for a mine of at most 1,000 blocks, and pseudoflow where a number of its run doesn't
+    /// fit; for a larger one pseudoflow, and up to 10,000 blocks the machine where that gives no certificate.
     Auto,
     /// Highest-label pseudoflow alone (Hochbaum 2008).
     Pseudoflow,
@@ -18,8 +18,8 @@ pub enum Method {
 // The most blocks of a mine that `Auto` gives to the machine at once: it settles these in a moment.
 const FEW_BLOCKS: u32 = 1_000;
 
-// The most blocks of a mine that `Auto` gives to the machine where pseudoflow gives no certificate: a run on more than some
-// thousand blocks needs more steps than can be waited for, and more memory than pseudoflow.
+// The most blocks of a mine that `Auto` gives to the machine where pseudoflow gives no certificate: a run on more than
+// some thousand blocks needs more steps than can be waited for, and more memory than pseudoflow.
 const BLOCKS_TO_TRY: u32 = 10_000;
 
 impl Method {

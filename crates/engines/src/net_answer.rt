@@ -15,14 +15,14 @@ use fixed_worth::{CountedWrite, write_text};
 use mine_inputs::EngineFault;
 use ordered_group::OrderedGroup;
 
-/// Writes what was found for a net: the certificate of a solution, at this price, or a line that says why there is none. Whoever
-/// waits is told of a pit whose certificate was written.
+/// Writes what was found for a net: the certificate of a solution, at this price, or a line that says why there is
+/// none. Whoever waits is told of a pit whose certificate was written.
 ///
 /// A solution is one of this net: its flow proves its pit.
 ///
 /// # Errors
-/// `Memory`, `Thread` and `Stranger` where that is why: then nothing was written. `Device` where a write fails: the writer then has a
-/// prefix.
+/// `Memory`, `Thread` and `Stranger` where that is why: then nothing was written. `Device` where a write fails: the
+/// writer then has a prefix.
 pub fn write_answer<G: OrderedGroup, T: Outcome, W: CountedWrite>(
     net: &Net<G>,
     price: Price,

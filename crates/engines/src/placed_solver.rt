@@ -1,5 +1,5 @@
-//! Solves a mine whose blocks rest on one another by their places, without a list of the pairs: what a search finds is spelled
-//! as a certificate, and only a text that the check of `check` accepts is an answer.
+//! Solves a mine whose blocks rest on one another by their places, without a list of the pairs: what a search finds is
+//! spelled as a certificate, and only a text that the check of `check` accepts is an answer.
 
 ghost use Rattle.std.specs.Prelude.{◌≡◌, ◌<◌, ◌≤◌, All, IsTrue, length, map, IfSome};
 ghost use Rattle.fixed_worth.specs.declared.limits.TheConstants.{MOST_BLOCKS};
@@ -137,8 +137,8 @@ fn is_expected(header: Header, price: Price, group: Group) -> bool
     header.price == price && header.group == group
 }
 
-// The number of the blocks of the pit of a certificate and their worth, where a check accepts its text for what the blocks of
-// a net are worth and for pairs that are held apart from it.
+// The number of the blocks of the pit of a certificate and their worth, where a check accepts its text for what the
+// blocks of a net are worth and for pairs that are held apart from it.
 fn accepted_text<G: OrderedGroup>(
     alloc: Global,
     net: &Net<G>,
@@ -176,8 +176,8 @@ fn accepted_text<G: OrderedGroup>(
     }
 }
 
-/// The certificate of a mine whose pairs places hold: none where a list holds them, where the search gives up, or where the
-/// check doesn't accept what it found.
+/// The certificate of a mine whose pairs places hold: none where a list holds them, where the search gives up, or where
+/// the check doesn't accept what it found.
 pub(crate) fn placed_certificate<G: OrderedGroup, P: Progress>(
     alloc: Global,
     pairs: &HeldPairs,

@@ -1,5 +1,5 @@
-//! Makes the pattern that is asked for, gives the predecessors of each block of a model by it, or by the slopes of regions,
-//! and writes them as a precedence text.
+//! Makes the pattern that is asked for, gives the predecessors of each block of a model by it, or by the slopes of
+//! regions, and writes them as a precedence text.
 
 ghost use Rattle.std.specs.Prelude.{◌≡◌, ◌+◌, ◌-◌, ◌^◌, ◌<◌, map, Contains, OnOk, IfOk, IfErr, MatchResult, IsErrOf};
 ghost use Rattle.std.specs.Io.KnownBytes.{Appends};

@@ -13,14 +13,14 @@ use std::alloc::Global;
 
 /// Writes what each block of a text rests on by a pattern, as a precedence file: a line for each block.
 ///
-/// It answers `Done`, never `No`. Where `up` is `MinusZ`, a smaller z is higher; of the reduced pairs those are left out
-/// that lead over a third block. The input is read to its end, then the
+/// It answers `Done`, never `No`. Where `up` is `MinusZ`, a smaller z is higher; of the reduced pairs those are left
+/// out that lead over a third block. The input is read to its end, then the
 /// pattern is made, then the pairs, and nothing is written before all are known.
 ///
 /// # Errors
-/// In this order: `Blocks` for a fault of the text; `Slope` for a cone of more than 4,096 offsets, for two blocks at one
-/// place, or for more than 2^27 of these pairs. `Memory` where memory is refused, `Device` where a read or a write fails: the
-/// writer has then received a front of the text, and at every other fault nothing.
+/// In this order: `Blocks` for a fault of the text; `Slope` for a cone of more than 4,096 offsets, for two blocks at
+/// one place, or for more than 2^27 of these pairs. `Memory` where memory is refused, `Device` where a read or a write
+/// fails: the writer has then received a front of the text, and at every other fault nothing.
 ///
 /// Each device must have counted fewer than 2^64 - 1 failures, so that one more can be counted.
 pub fn slopes_engine<B: CountedRead, W: CountedWrite>(

@@ -8,7 +8,7 @@ use closure_net::{Carried, Flow, Net};
 use ordered_group::OrderedGroup;
 
 // No small number is farther from zero.
-const MOST: i128 = 1 << 96;
+const MOST: i128 = 1 << 88;
 
 // Whether a number is small.
 fn is_small_number(number: i128) -> bool
@@ -57,6 +57,7 @@ pub(crate) fn is_small_flow<G: OrderedGroup>(net: &Net<G>, flow: &Flow<G>) -> bo
 {
     // proof: a net has few blocks and few pairs
     let _worths = net.worths();
+    let _pairs = net.rests().len();
     has_small_worths(net)
         && are_small(flow.source())
         && are_small(flow.rest())

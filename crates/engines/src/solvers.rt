@@ -23,8 +23,8 @@ pub enum Unsolved {
     Unsettled,
     /// A number of a step of the machine's run, or of the check of its flow, doesn't fit.
     TooLarge,
-    /// Pseudoflow gave no flow that a check accepts, and the machine wasn't tried: pseudoflow alone was asked for, or the mine
-    /// is too large for it.
+    /// Pseudoflow gave no flow that a check accepts, and the machine wasn't tried: pseudoflow alone was asked for, or
+    /// the mine is too large for it.
     GaveUp,
     /// Memory was refused.
     NoMemory,
@@ -80,8 +80,8 @@ pub fn by_pseudoflow<G: OrderedGroup, P: Progress>(
 /// The pit that a run of the push-relabel machine proves.
 ///
 /// # Errors
-/// `Unsettled` where the effort's steps don't end the run, `TooLarge` where a number of a step or of the check doesn't fit;
-/// `NoMemory`, `NoThread`, and `Stranger` where the board came back as another's. `GaveUp` never.
+/// `Unsettled` where the effort's steps don't end the run, `TooLarge` where a number of a step or of the check doesn't
+/// fit; `NoMemory`, `NoThread`, and `Stranger` where the board came back as another's. `GaveUp` never.
 pub fn by_machine<G: OrderedGroup, R: Threads + Wait + Sync, T: Gate>(
     rt: &R,
     alloc: Global,
@@ -107,8 +107,8 @@ where
     }
 }
 
-// What a run of the machine proves; under `Auto` what pseudoflow proves where a number of that run doesn't fit: the counts of
-// blocks in the machine's amounts grow from push to push, also on small mines.
+// What a run of the machine proves; under `Auto` what pseudoflow proves where a number of that run doesn't fit: the
+// counts of blocks in the machine's amounts grow from push to push, also on small mines.
 fn by_machine_first<G: OrderedGroup, R: Threads + Wait + Sync, T: Gate + Progress>(
     rt: &R,
     alloc: Global,
@@ -137,8 +137,8 @@ where
 /// A pit of a net with a flow that proves it, made by the effort's method.
 ///
 /// # Errors
-/// Those of `by_machine`; `GaveUp` where pseudoflow proves no pit and alone was asked for, or, under `Auto`, the mine has more
-/// than 10,000 blocks.
+/// Those of `by_machine`; `GaveUp` where pseudoflow proves no pit and alone was asked for, or, under `Auto`, the mine
+/// has more than 10,000 blocks.
 pub fn solution_of<G: OrderedGroup, R: Threads + Wait + Sync, T: Gate + Progress>(
     rt: &R,
     alloc: Global,

@@ -32,27 +32,28 @@ use std::sync::Wait;
 use std::thread::Threads;
 use workers::{Gate, Locked, Shared, TurnBoard};
 
-/// Finds the best pit of a mine, where its blocks have prices at the factor that is asked for, and writes its certificate,
-/// which names this factor.
+/// Finds the best pit of a mine, where its blocks have prices at the factor that is asked for, and writes its
+/// certificate, which names this factor.
 ///
-/// `Done` where it wrote a certificate that a check has accepted: its pit contains each block's predecessors, and no such
-/// pit is worth more; with `Group::Pair` and `Group::Scaled` every other of equal worth has more blocks (Picard 1976).
-/// This rests on the check alone, whichever solver computed the flow.
+/// `Done` where it wrote a certificate that a check has accepted: its pit contains each block's predecessors, and no
+/// such pit is worth more; with `Group::Pair` and `Group::Scaled` every other of equal worth has more blocks (Picard
+/// 1976). This rests on the check alone, whichever solver computed the flow.
 ///
-/// `No` where it wrote `UNSETTLED`, because the machine's run needs more than the effort's steps, or `REFUSED TooLarge`,
-/// because a number of the run or of the check of its flow doesn't fit. With `Method::Pseudoflow` it writes `UNSETTLED`
-/// where pseudoflow finds no flow that a check accepts, which says nothing about the mine.
+/// `No` where it wrote `UNSETTLED`, because the machine's run needs more than the effort's steps, or
+/// `REFUSED TooLarge`, because a number of the run or of the check of its flow doesn't fit. With `Method::Pseudoflow`
+/// it writes `UNSETTLED` where pseudoflow finds no flow that a check accepts, which says nothing about the mine.
 ///
-/// Where settings list slopes and pseudoflow is asked first, it searches the places of the blocks, and no list of pairs is made
-/// if a grid holds them and a check accepts what it finds.
+/// Where settings list slopes and pseudoflow is asked first, it searches the places of the blocks, and no list of pairs
+/// is made if a grid holds them and a check accepts what it finds.
 ///
 /// The inputs are read in the order of the arguments, each to its end, and nothing is written before the answer is
-/// known. Each worker of the machine passes the gate before each of its turns, and pseudoflow reports to it how far it is.
+/// known. Each worker of the machine passes the gate before each of its turns, and pseudoflow reports to it how far it
+/// is.
 ///
 /// # Errors
-/// Those of [`mine_to_check`](mine_inputs::mine_to_check) or [`held_mine`](mine_inputs::held_mine), then `Model` where the net's amounts don't
-/// fit. `Memory` where memory is refused, `Thread` where a worker can't be started, `Stranger` where the
-/// board that the workers shared comes back as another's (see `workers::solve`), `Device` where a read or
+/// Those of [`mine_to_check`](mine_inputs::mine_to_check) or [`held_mine`](mine_inputs::held_mine), then `Model` where
+/// the net's amounts don't fit. `Memory` where memory is refused, `Thread` where a worker can't be started, `Stranger`
+/// where the board that the workers shared comes back as another's (see `workers::solve`), `Device` where a read or
 /// a write fails: the writer has then received a prefix of the answer, and at every other fault nothing.
 ///
 /// Each device must have counted fewer than 2^64 - 1 failures, so that one more can be counted.
@@ -282,8 +283,8 @@ fn solve_held<R: Threads + Wait + Sync, T: Gate + Progress + Outcome, W: Counted
     }
 }
 
-// Solves the mine in amounts of the group G: over its places where pseudoflow is asked first and these give a certificate, and
-// else over the list of its pairs.
+// Solves the mine in amounts of the group G: over its places where pseudoflow is asked first and these give a
+// certificate, and else over the list of its pairs.
 fn solve_held_by<
     G: OrderedGroup,
     R: Threads + Wait + Sync,

@@ -6,7 +6,7 @@ use Rattle.closure_net.specs.Mine.{Mine}
 use Rattle.schedules.specs.Prelude.{Production, expanded, rests_by_period}
 use Rattle.expanded_mine.specs.Nodes.{row_of}
 
--- Node i rests on node j where its block waits for the other's, and its period is so many behind the other's.
+-- Node i rests on node j where its block waits for the other's, and its period is so many after the other's.
 abbrev pub rests_by_wait : (n periods lag : ℕ) → List (ℕ × ℕ) → ℕ → ℕ → Bool
 rests_by_wait n periods lag waits i j = nat_lt i (periods * n) && (i / n == lag + j / n && has_pair waits (i % n) (j % n))
 
@@ -18,7 +18,8 @@ node_rests n periods lag waits pairs i j = rests_by_period n periods (has_pair p
 abbrev pub is_early : (n lag : ℕ) → List (ℕ × ℕ) → ℕ → Bool
 is_early n lag waits i = nat_lt (i / n) lag && list_any (λ q. q.0 == i % n) waits
 
--- What such a node is worth less: 10^15 units. A pit gains by it only where what rests on it brings more; the bound holds all the same.
+-- What such a node is worth less: 10^15 units. A pit gains by it only where what rests on it brings more; the bound
+-- holds all the same.
 abbrev pub withheld : Bool → ℤ
 withheld early = cond early (pos 1000000000000000000000000000000) (pos 0)
 

@@ -55,8 +55,8 @@ fn price_of_all(figures: &Figures, prices: &[u64]) -> Option<i128>
 }
 
 /// The bound that a pit of the expanded mine gives which is worth so many billionths of millionths: this with all
-/// capacities at their prices, or `None` where it leaves 128 bits. If no pit of the expanded mine is worth more, no feasible
-/// schedule is that keeps its waits.
+/// capacities at their prices, or `None` where it leaves 128 bits. If no pit of the expanded mine is worth more, no
+/// feasible schedule is that keeps its waits.
 pub fn bound_by(figures: &Figures, prices: &[u64], worth: i128) -> Option<i128>
     ensures bound { IfSome result (λ bound. (pairs waits : List (ℕ × ℕ)) (lag : ℕ) (chosen : ℕ → Bool)
         → IsRichest (waiting_mine (production_of pairs figures.now) (price_by figures.now prices.now) lag waits) chosen

@@ -12,7 +12,7 @@ use fixed_worth::MOST_BLOCKS;
 use prec_file::{MOST_PAIRS, Predecessors, PredecessorsBuilder};
 use std::alloc::Global;
 
-// Adds a pair to those of a node, if there is room for it behind those of the nodes before.
+// Adds a pair to those of a node, if there is room for it after those of the nodes before.
 fn add(row: &mut Vec<(u32, u32)>, before: usize, pair: (u32, u32)) -> Result<(), ExpandFault>
     requires { before + length row.old.items ≤ MOST_PAIRS }
     ensures { IfOk result (λ _. (row.new.items ≡ row.old.items ++ pair ∷ [])
@@ -139,8 +139,8 @@ fn list_node(
     }
 }
 
-/// Which node rests on which: the pairs of the expanded mine of blocks with these predecessors over so many periods, which wait
-/// for others by these pairs. Nothing else is held than these.
+/// Which node rests on which: the pairs of the expanded mine of blocks with these predecessors over so many periods,
+/// which wait for others by these pairs. Nothing else is held than these.
 ///
 /// # Errors
 /// `TooManyNodes` before all else; `TooManyPairs`; `NoMemory`.

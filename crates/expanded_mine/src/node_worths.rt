@@ -157,9 +157,9 @@ fn push_worth(worths: &mut Vec<i128>, worth: i128) -> Result<(), ExpandFault>
     worths.push(worth).map_err(|_| ExpandFault::NoMemory)
 }
 
-/// What each node of the expanded mine is worth, period by period, in 10^-15 of the unit of the worths: what its block leaves in
-/// its period above the prices of what it uses, less what it leaves in the next one. A node of a block that waits for another is
-/// worth 10^15 units less in the periods in which it is too early.
+/// What each node of the expanded mine is worth, period by period, in 10^-15 of the unit of the worths: what its block
+/// leaves in its period above the prices of what it uses, less what it leaves in the next one. A node of a block that
+/// waits for another is worth 10^15 units less in the periods in which it is too early.
 ///
 /// # Errors
 /// `TooManyNodes` before all else; `TooLarge` where a number doesn't fit; `NoMemory`.

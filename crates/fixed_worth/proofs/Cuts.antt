@@ -37,7 +37,7 @@ begins_from : (p : ℕ) (bs : List ℕ) → BeginsFrom p (runs_from p bs)
 begins_from p [] = tt
 begins_from p (b ∷ bs) = elim (is_separator b) as (λ t. BeginsFrom p (cond t (runs_from (p + 1) bs) (run_before b p (runs_from (p + 1) bs)))) [ true ↦ begins_later p (runs_from (p + 1) bs) (begins_from (p + 1) bs) | false ↦ grind (arith, common_steps) ]
 
--- A byte with a gap behind it is a run of its own.
+-- A byte with a gap after it is a run of its own.
 alone : (b p : ℕ) (rs : List WordRun) → BeginsFrom (p + 1 + 1) rs → run_before b p rs ≡ record { text = b ∷ []; place = p } ∷ rs
 alone b p rs h = grind (arith, common_steps)
 
@@ -59,7 +59,7 @@ first_run p bs h e = grind (arith, common_steps, run_from)
 abbrev pub gap : List ℕ → ℕ
 gap bs = position_or_len (λ b. not (is_separator b)) bs
 
--- What is left behind the separators.
+-- What is left after the separators.
 skip : (p b : ℕ) (bs : List ℕ) (t : Bool) → is_separator b ≡ t → runs_from (p + 1) bs ≡ runs_from (p + 1 + gap bs) (drop (gap bs) bs)
     → runs_from p (b ∷ bs) ≡ runs_from (p + gap (b ∷ bs)) (drop (gap (b ∷ bs)) (b ∷ bs))
 skip p b bs t e ih = grind (arith, common_steps, (one-add (gap bs)))

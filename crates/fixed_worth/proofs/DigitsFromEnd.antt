@@ -1,6 +1,6 @@
 use Rattle.fixed_worth.proofs.Common.{◌≡◌, ℕ, ◌+◌, ◌-◌, ◌/◌, ◌%◌, ◌<◌, ◌≤◌, ◌^◌, List, [], ◌∷◌, ◌++◌, length, drop, set, arith, decimal, decimal_step_wide, decimal_digit, decimal_by_steps_wide, length-append, common_steps}
 
--- The bytes from start on are what stands behind the digits of what is left.
+-- The bytes from start on are what stands after the digits of what is left.
 pub record AreWritten (n left start : ℕ) (bytes : List ℕ) : Type 0 where
   pub whole : decimal n ≡ decimal left ++ drop start bytes
   pub room : length (decimal left) ≤ start

@@ -29,7 +29,7 @@ digit_plain b h = grind arith
 pub passed_all : (p : ℕ → Bool) (xs : List ℕ) → list_all (λ b. not (p b)) xs ≡ true → position_or_len p xs ≡ length xs
 passed_all p xs h = grind (arith, common_steps, (passed p xs [] h), (append-nil xs))
 
--- The field that stands first, of which this is what stands behind its sign.
+-- The field that stands first, of which this is what stands after its sign.
 record Front (text unsigned rest : List ℕ) : Type 0 where
   field : List ℕ
   all : text ≡ field ++ rest
@@ -118,7 +118,7 @@ decimal_is field whole point fraction e plain h j f few small some =
     let most : nat_le (value_of whole * 10 ^ 6 + value_of fraction * 10 ^ (6 - length fraction)) (10 ^ 18) ≡ true = let s = small_value whole fraction h j few small in grind (arith, nat_tests) in
     rw (whole_is field whole point fraction e m h f, fraction_is field whole point fraction e m h f, none, unmarked, one, digits, short) (rw (value_scaled whole fraction small, most) refl)
 
--- A decimal with at most twelve digits before its point and six behind it is the first field where a separator or the
+-- A decimal with at most twelve digits before its point and six after it is the first field where a separator or the
 -- end follows.
 pub amount_read : (text whole behind left rest : List ℕ) (value places : ℕ) → unsigned_of text ≡ whole ++ behind → BeginsWithFraction behind value places left → list_all is_digit whole ≡ true
     → length whole ≤ 12 → places ≤ 6 → 0 < length whole + places → rest ≡ drop 1 left → (0 < length left → is_separator (get_or left 0 0) ≡ true)

@@ -1,11 +1,11 @@
--- A number that stands first in a line, and what is left behind it.
+-- A number that stands first in a line, and what is left after it.
 use Rattle.fixed_worth.proofs.Common.{◌≡◌, ℕ, ◌+◌, ◌-◌, ◌*◌, ◌<◌, ◌≤◌, Bool, true, false, not, List, [], ◌∷◌, ◌++◌, length, take, drop, get_or, refl, sym, ap, ◌∙◌, arith, Some, None, Result, Ok, list_all, position_or_len, take_more, length-drop, take-append-drop, length-take-le, list_all_more, prefix_len_stops, and_parts, and_from, common_steps}
 use Rattle.fixed_worth.specs.declared.numerals.NumberFault.{NumberFault}
 use Rattle.fixed_worth.specs.Prelude.{BeginsWithField, is_digit, value_of, whole_of, first_whole, reads, is_remark, WordRun, is_separator, runs_from}
 use Rattle.fixed_worth.proofs.Cuts.{first_run}
 use Rattle.fixed_worth.proofs.Digits.{value_of-append, value_below, power_fits}
 
--- one more digit behind those that are read
+-- one more digit after those that are read
 pub one_more : (text : List ℕ) (i : ℕ) → i < length text → value_of (take (i + 1) text) ≡ value_of (take i text) * 10 + (get_or text i 0 - 48)
 one_more text i h = grind (arith, common_steps, value_of-append, take_more)
 
@@ -24,7 +24,7 @@ reads_as : (text : List ℕ) (w v : ℕ) → length text ≡ w → 0 < w → w �
 unfolding whole_of
 reads_as text w v size some few digits value = grind (arith, common_steps, value_below, power_fits)
 
--- What stands first is the field, and what is left behind it and its separator are the other fields.
+-- What stands first is the field, and what is left after it and its separator are the other fields.
 field_passed : (p w : ℕ) (bs behind rest : List ℕ) → 0 < w → w ≤ length bs → position_or_len is_separator bs ≡ w → behind ≡ drop w bs → rest ≡ drop 1 behind
     → runs_from p bs ≡ record { text = take w bs; place = p } ∷ runs_from (p + (length bs - length rest)) rest
 field_passed p w bs behind rest some within ends e f = grind (arith, common_steps, first_run, separator_behind, length-drop)
@@ -45,7 +45,7 @@ digits_inside : (xs : List ℕ) → list_all is_digit xs ≡ true → list_all (
 digits_inside [] h = refl
 digits_inside (x ∷ xs) h = grind (arith, common_steps, and_parts, and_from, digit_inside, (digits_inside xs (and_parts (is_digit x) (list_all is_digit xs) h).1))
 
--- A short run of digits with a separator or the end behind it is the first field, and reads as its value.
+-- A short run of digits with a separator or the end after it is the first field, and reads as its value.
 pub short_number : (text behind rest : List ℕ) (w v : ℕ) → 0 < w → w ≤ length text → w ≤ 19 → list_all is_digit (take w text) ≡ true → v ≡ value_of (take w text)
     → behind ≡ drop w text → rest ≡ drop 1 behind → (0 < length behind → is_separator (get_or behind 0 0) ≡ true) → (field : List ℕ) × BeginsWithField text field rest × (whole_of field ≡ Ok v)
 short_number text behind rest w v some within few digits value e f ends =

@@ -21,7 +21,7 @@ pub line_cut : (line rest : List ℕ) → is_one_line line ≡ true → lines_of
 line_cut [] rest h = refl
 line_cut (b ∷ bs) rest h = grind (arith, common_steps, (line_cut bs rest (and_parts (not (eqb b 10)) (is_one_line bs) h).1))
 
--- lines with a line feed behind each are the lines of their text
+-- lines with a line feed after each are the lines of their text
 pub lines_cut : (lines : List (List ℕ)) → list_all is_one_line lines ≡ true → lines_of (with_line_feeds lines) ≡ lines
 lines_cut [] h = refl
 lines_cut (line ∷ lines) h = grind (arith, common_steps, and_parts, line_cut, (lines_cut lines (and_parts (is_one_line line) (list_all is_one_line lines) h).1))

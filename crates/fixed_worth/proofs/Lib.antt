@@ -2,6 +2,7 @@ pub mod Common
 pub mod Cuts
 pub mod Searched
 pub mod Digits
+pub mod EightBytes
 pub mod FieldLaws
 pub mod FirstNumbers
 pub mod FirstAmounts

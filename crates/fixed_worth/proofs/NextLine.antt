@@ -1,4 +1,4 @@
--- The next line of a text, and what is left behind it.
+-- The next line of a text, and what is left after it.
 use Rattle.fixed_worth.proofs.Common.{◌≡◌, ℕ, ◌+◌, ◌≤◌, false, List, ◌∷◌, length, refl, arith, nat_lt, nat_tests}
 use Rattle.fixed_worth.specs.declared.limits.TheConstants.{LINE_BYTES}
 use Rattle.fixed_worth.specs.Prelude.{Left, Line, numbered_lines}

@@ -1,4 +1,5 @@
--- What holds on one side of a result, where it holds whatever the result is; and what one was before another error took its own's place.
+-- What holds on one side of a result, where it holds whatever the result is; and what one was before another error took
+-- its own's place.
 use Rattle.fixed_worth.proofs.Common.{◌≡◌, Result, Ok, arith, MatchResult, IsErrAnd, OnOk, OnErr, common_steps}
 
 pub ok_before : {T D E : Type 0} (Q : D → E → Type 0) (r : Result T D) (s : Result T E) (x : T) → s ≡ Ok x → MatchResult r (λ y. s ≡ Ok y) (λ d. IsErrAnd s (Q d)) → r ≡ Ok x

@@ -27,15 +27,15 @@ mantissa_of text = unsigned_of (before_first is_mark text)
 unfoldable pub whole_part : List ℕ → List ℕ
 whole_part text = before_first is_point (mantissa_of text)
 
--- What stands behind the point of the mantissa; nothing where it has no point.
+-- What stands after the point of the mantissa; nothing where it has no point.
 unfoldable pub fraction_part : List ℕ → List ℕ
 fraction_part text = after_first is_point (mantissa_of text)
 
--- What stands behind the mark, with its sign; nothing where there is no mark.
+-- What stands after the mark, with its sign; nothing where there is no mark.
 unfoldable pub exponent_of : List ℕ → List ℕ
 exponent_of text = after_first is_mark text
 
--- There is a mark in the text, and so an exponent is wanted behind it.
+-- There is a mark in the text, and so an exponent is wanted after it.
 unfoldable pub has_mark : List ℕ → Bool
 has_mark text = nat_lt (position_or_len is_mark text) (length text)
 
@@ -43,11 +43,11 @@ has_mark text = nat_lt (position_or_len is_mark text) (length text)
 abbrev pub digits_in : List ℕ → List ℕ
 digits_in text = whole_part text ++ fraction_part text
 
--- What stands behind the mark, without its sign.
+-- What stands after the mark, without its sign.
 abbrev pub exponent_digits : List ℕ → List ℕ
 exponent_digits text = unsigned_of (exponent_of text)
 
--- Digits, at least one; and behind a mark digits, at least one.
+-- Digits, at least one; and after a mark digits, at least one.
 abbrev pub is_decimal : List ℕ → Bool
 is_decimal text = is_number (digits_in text) && (not (has_mark text) || nat_lt 0 (length (exponent_digits text))) && list_all is_digit (exponent_digits text)
 

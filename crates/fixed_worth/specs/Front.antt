@@ -4,12 +4,12 @@ use Rattle.std.specs.List.{list_all}
 use Rattle.fixed_worth.specs.Numeral.{is_digit, value_of}
 use Rattle.fixed_worth.specs.Text.{runs_from}
 
--- A point, or nothing; and without a point there are no digits behind it.
+-- A point, or nothing; and without a point there are no digits after it.
 abbrev pub MayFollow : List ℕ → List ℕ → Type 0
 MayFollow digits [] = digits ≡ []
 MayFollow digits (b ∷ bs) = (b ≡ 46) × (bs ≡ [])
 
--- A point with digits behind it, if there is one, and then what is left: the digits' value, and how many they are.
+-- A point with digits after it, if there is one, and then what is left: the digits' value, and how many they are.
 pub record BeginsWithFraction (text : List ℕ) (value places : ℕ) (rest : List ℕ) : Type 0 where
   pub point : List ℕ
   pub digits : List ℕ

@@ -4,13 +4,13 @@ use Rattle.std.specs.Fmt.{signed_decimal}
 use Rattle.fixed_worth.specs.Numeral.{plain_of}
 use Rattle.fixed_worth.specs.Text.{is_separator, WordRun}
 
--- the text with a line feed (10) behind its last line
+-- the text with a line feed (10) after its last line
 abbrev pub with_last_line_feed : List ℕ → List ℕ
 with_last_line_feed [] = []
 with_last_line_feed (b ∷ []) = cond (b == 10) (b ∷ []) (b ∷ 10 ∷ [])
 with_last_line_feed (b ∷ c ∷ bs) = b ∷ with_last_line_feed (c ∷ bs)
 
--- the lines in a row, a line feed behind each
+-- the lines in a row, a line feed after each
 abbrev pub with_line_feeds : List (List ℕ) → List ℕ
 with_line_feeds [] = []
 with_line_feeds (line ∷ lines) = line ++ (10 ∷ with_line_feeds lines)

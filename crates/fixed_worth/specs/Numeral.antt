@@ -8,7 +8,11 @@ use Rattle.fixed_worth.specs.declared.numerals.NumberFault.TheVariants.{NotANumb
 abbrev pub is_digit : ℕ → Bool
 is_digit b = nat_le 48 b && nat_le b 57
 
--- The value of digits: each counts by the power of ten of the digits behind it.
+-- none of them
+abbrev pub is_other : ℕ → Bool
+is_other b = not (is_digit b)
+
+-- The value of digits: each counts by the power of ten of the digits after it.
 abbrev pub value_of : List ℕ → ℕ
 value_of [] = 0
 value_of (b ∷ bs) = (b - 48) * 10 ^ length bs + value_of bs
@@ -54,7 +58,7 @@ abbrev pub begins_above_zero : List ℕ → Bool
 begins_above_zero [] = false
 begins_above_zero (b ∷ bs) = nat_lt 48 b && nat_le b 57
 
--- a 0 alone, or a first digit that is not 0, perhaps behind a minus
+-- a 0 alone, or a first digit that is not 0, perhaps after a minus
 unfoldable pub is_plain : List ℕ → Bool
 is_plain [] = false
 is_plain (b ∷ bs) = ((b == 48) && (length bs == 0)) || begins_above_zero (cond (b == 45) bs (b ∷ bs))

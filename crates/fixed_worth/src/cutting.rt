@@ -1,5 +1,5 @@
 //! Parts a text at the first place where a given byte stands: gives the text before it and the text
-//! behind it, or nothing where the byte isn't there.
+//! after it, or nothing where the byte isn't there.
 
 ghost use Rattle.std.specs.Prelude.{◌≡◌, [], ◌∷◌, MatchOption};
 ghost use Rattle.fixed_worth.specs.Text.{parts};
@@ -7,7 +7,7 @@ ghost use Rattle.fixed_worth.specs.Text.{parts};
 use crate::line_reader::behind_first;
 use memchr::memchr;
 
-/// The text before the first `byte` and the text behind it, or `None` where `byte` isn't in the text.
+/// The text before the first `byte` and the text after it, or `None` where `byte` isn't in the text.
 pub fn cut_at<'a>(byte: u8, text: &'a [u8]) -> Option<(&'a [u8], &'a [u8])>
     ensures { MatchOption result
         (parts byte text.now ≡ text.now ∷ [])

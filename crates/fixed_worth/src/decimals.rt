@@ -10,7 +10,7 @@ use crate::line_reader::behind_first;
 use crate::numerals::{NumberFault, are_digits, has_minus, value, with_digit, without_sign};
 use crate::rounding::rounded;
 
-// The digits of a numeral before its point, behind it, and of its exponent.
+// The digits of a numeral before its point, after it, and of its exponent.
 #[derive(Clone, Copy)]
 struct Parts<'a> {
     whole: &'a [u8],

@@ -88,11 +88,11 @@ impl<'a> Fields<'a> {
         }
     }
 
-    /// The next field as a whole number, or why it is none: what [`whole`](crate::whole) says of its text. `None` behind
-    /// the last field.
+    /// The next field as a whole number, or why it is none: what [`whole`](crate::whole) says of its text. `None`
+    /// after the last field.
     ///
     /// Either way the field is passed. A number of at most nineteen digits, as nearly all are, is read while its end is
-    /// looked for, and the separator behind it is passed too.
+    /// looked for, and the separator after it is passed too.
     #[inline(always)]
     pub fn next_whole(&mut self) -> Option<Result<u64, NumberFault>>
         ensures value { result ≡ first_whole self.old }
@@ -111,10 +111,10 @@ impl<'a> Fields<'a> {
         Some(Ok(first.value))
     }
 
-    /// The next field as an amount, or why it is none: what [`Micros::from_text`] says of its text. `None` behind the last
-    /// field.
+    /// The next field as an amount, or why it is none: what [`Micros::from_text`] says of its text. `None` after the
+    /// last field.
     ///
-    /// Either way the field is passed. An amount with at most twelve digits before its point and six behind it, and
+    /// Either way the field is passed. An amount with at most twelve digits before its point and six after it, and
     /// without an exponent, is read while its end is looked for.
     #[inline(always)]
     pub fn next_amount(&mut self) -> Option<Result<Micros, NumberFault>>
@@ -144,8 +144,8 @@ impl<'a> Fields<'a> {
         }
     }
 
-    // The next field as a whole number, of whatever form, and the fields behind it. By value, so that a loop over numbers
-    // can hold its fields in registers.
+    // The next field as a whole number, of whatever form, and the fields after it. By value, so that a loop over
+    // numbers can hold its fields in registers.
     #[cold]
     #[inline(never)]
     fn after_whole(mut self) -> (Option<Result<u64, NumberFault>>, Fields<'a>)
@@ -159,7 +159,7 @@ impl<'a> Fields<'a> {
         (read, self)
     }
 
-    // The next field as an amount, of whatever form, and the fields behind it.
+    // The next field as an amount, of whatever form, and the fields after it.
     #[cold]
     #[inline(never)]
     fn after_amount(mut self) -> (Option<Result<Micros, NumberFault>>, Fields<'a>)

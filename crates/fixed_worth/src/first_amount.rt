@@ -1,4 +1,4 @@
-//! Reads the amount with which a text begins, in one pass over its bytes, and gives what is left behind its field.
+//! Reads the amount with which a text begins, in one pass over its bytes, and gives what is left after its field.
 //! Only short decimals without an exponent are read; for other fields there is no answer.
 
 ghost use Rattle.std.specs.Prelude.{◌≡◌, ℕ, ◌+◌, ◌-◌, ◌*◌, ◌<◌, ◌≤◌, ◌^◌, List, cond, pos, neg_ℤ, Ok, IfSome};
@@ -9,7 +9,7 @@ use crate::first_number::{behind_field, leading_digits};
 use crate::millionths::Micros;
 use crate::numerals::{has_minus, without_sign};
 
-// The digits behind a point that comes first, if it does: their value and how many they are; and what is left.
+// The digits after a point that comes first, if it does: their value and how many they are; and what is left.
 #[derive(Clone, Copy)]
 struct Fraction<'a> {
     value: u64,
@@ -39,7 +39,7 @@ fn leading_fraction(text: &[u8]) -> Fraction<'_>
     }
 }
 
-// How many millionths one is that stands so many places behind the point.
+// How many millionths one is that stands so many places after the point.
 #[inline(always)]
 fn unit_of_place(places: usize) -> u64
     requires { places ≤ 6 }
@@ -56,7 +56,7 @@ fn unit_of_place(places: usize) -> u64
     }
 }
 
-// The millionths of a number before the point and of one behind it.
+// The millionths of a number before the point and of one after it.
 #[inline(always)]
 fn millionths(whole: u64, fraction: u64, places: usize) -> u64
     requires whole { whole < 10 ^ 12 }
@@ -80,15 +80,15 @@ fn with_sign(minus: bool, size: u64) -> Micros
     }
 }
 
-// An amount that stands first in a text, and what is left behind its field.
+// An amount that stands first in a text, and what is left after its field.
 #[derive(Clone, Copy)]
 pub(crate) struct FirstAmount<'a> {
     pub amount: Micros,
     pub rest: &'a [u8],
 }
 
-// The amount that stands first in a text, where its field is a decimal with at most twelve digits before its point and six
-// behind it, and without an exponent. Of another field, and where the text begins with a separator, there is none.
+// The amount that stands first in a text, where its field is a decimal with at most twelve digits before its point and
+// six after it, and without an exponent. Of another field, and where the text begins with a separator, there is none.
 #[inline(always)]
 pub(crate) fn first_amount(text: &[u8]) -> Option<FirstAmount<'_>>
     ensures { IfSome result (λ first. (field : List ℕ)

@@ -7,12 +7,10 @@ ghost use Rattle.fixed_worth.specs.Front.{BeginsWithField};
 ghost use Rattle.fixed_worth.specs.Numeral.{is_digit, value_of, whole_of};
 ghost use Rattle.fixed_worth.specs.Text.{is_separator};
 
+use crate::eight_bytes::{WINDOW, digits_in_front, value_in_front};
 use crate::field_reader::is_separator;
 use crate::line_reader::behind_first;
 use crate::numerals::is_digit_byte;
-
-// How many bytes are looked at without asking each time whether the text goes on.
-const WINDOW: usize = 8;
 
 // The value of the digits that come first among so many bytes, and how many they are.
 #[inline(always)]
@@ -42,13 +40,17 @@ pub(crate) fn leading_digits(text: &[u8]) -> (u64, usize)
     ensures value { result.0 ≡ value_of (take result.1 text.now) }
     ensures small { result.0 < 10 ^ result.1 }
 {
-    if text.len() >= WINDOW {
-        let (value, width) = digits_among(text, WINDOW);
-        if width < WINDOW {
-            return (value, width);
-        }
+    if text.len() < WINDOW {
+        return digits_among(text, text.len());
     }
-    digits_among(text, text.len().min(19))
+    let width = digits_in_front(text);
+    if width == 0 {
+        return (0, 0);
+    }
+    if width == WINDOW && text.len() > WINDOW && is_digit_byte(text[WINDOW]) {
+        return digits_among(text, text.len().min(19));
+    }
+    (value_in_front(text, width), width)
 }
 
 // What is left after a field, where this text follows it: nothing where the text is empty, and where it begins with a
@@ -76,8 +78,8 @@ pub(crate) struct FirstNumber<'a> {
     pub rest: &'a [u8],
 }
 
-// The number that stands first in a text, where its field is at most nineteen digits. Of another field, and where the text
-// begins with a separator, there is none.
+// The number that stands first in a text, where its field is at most nineteen digits. Of another field, and where the
+// text begins with a separator, there is none.
 #[inline(always)]
 pub(crate) fn first_number(text: &[u8]) -> Option<FirstNumber<'_>>
     ensures { IfSome result (λ first. (field : List ℕ)

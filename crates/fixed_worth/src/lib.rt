@@ -1,5 +1,5 @@
-//! Numbers, lines and fields of text files, and the devices that the texts come from and go to: despite its name, all that
-//! texts have in common.
+//! Numbers, lines and fields of text files, and the devices that the texts come from and go to: despite its name, all
+//! that texts have in common.
 //!
 //! Everything that reads or prints a number goes through this crate: whole numbers, decimals in
 //! millionths, and sums in millionths and in billionths. It also cuts a text into lines and a line
@@ -16,6 +16,7 @@
 mod cutting;
 mod decimals;
 mod devices;
+mod eight_bytes;
 mod failing_device;
 mod fault_names;
 mod field_reader;

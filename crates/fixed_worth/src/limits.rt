@@ -18,7 +18,8 @@ pub const MOST_FACTOR: u32 = 10_000;
 /// The most price factors of one series of pits.
 pub const MOST_FACTORS: usize = 64;
 
-// Contracts cite the limits by their names, so a wrong number would change code and contract alike: these are the numbers.
+// Contracts cite the limits by their names, so a wrong number would change code and contract alike: these are the
+// numbers.
 fn numbers()
     ensures blocks { MOST_BLOCKS ≡ 16777216 }
     ensures line { LINE_BYTES ≡ 65536 }

@@ -78,7 +78,7 @@ impl<'a> Lines<'a> {
         self.number
     }
 
-    /// The next line without its line feed, or `None` behind the last one.
+    /// The next line without its line feed, or `None` after the last one.
     ///
     /// `LineTooLong` if it has more than 65,536 bytes. That line stays the next one, so that the same call answers the
     /// same again.

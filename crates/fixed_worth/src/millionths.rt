@@ -50,12 +50,12 @@ impl Micros {
         Micros { millionths }
     }
 
-    /// Reads an amount such as `12`, `-0.5`, `+.5`, `5.` or `1.25e-3`, to the nearest millionth, and away from zero from
-    /// the middle between two.
+    /// Reads an amount such as `12`, `-0.5`, `+.5`, `5.` or `1.25e-3`, to the nearest millionth, and away from zero
+    /// from the middle between two.
     ///
-    /// `NotANumber` unless the text is an optional sign, digits with at most one point among them, and perhaps `e` or `E`
-    /// with a whole exponent; then `TooLong` at more than 36 digits, or an exponent beyond 40 either way; then `TooLarge`
-    /// where the rounded amount is more than 10^18 millionths either way.
+    /// `NotANumber` unless the text is an optional sign, digits with at most one point among them, and perhaps `e` or
+    /// `E` with a whole exponent; then `TooLong` at more than 36 digits, or an exponent beyond 40 either way; then
+    /// `TooLarge` where the rounded amount is more than 10^18 millionths either way.
     pub fn from_text(text: &[u8]) -> Result<Micros, NumberFault>
         ensures { result ≡ decimal_of text.now }
     {

@@ -41,7 +41,7 @@ impl Page {
     }
 
     /// Holds the piece, or sends what is held first where the page has no room for both. A piece
-    /// longer than a page is sent at once, behind what was held.
+    /// longer than a page is sent at once, after what was held.
     ///
     /// [`WriteFault::Device`] where a write failed: the writer has then received a prefix of what
     /// was held and the piece. The page still holds all that it held, unless the writer received

@@ -7,7 +7,7 @@ ghost use Rattle.fixed_worth.specs.Decimal.{rounded_of};
 // The largest amount of millionths that a numeral may stand for.
 const MOST: u128 = 1_000_000_000_000_000_000;
 
-// The number with k zeros behind it, where it is at most 10^18.
+// The number with k zeros after it, where it is at most 10^18.
 fn scaled_up(m: u128, k: u32) -> Option<u128>
     requires { m < 10 ^ 36 }
     ensures { SomeIff result (m * 10 ^ k ≤ 10 ^ 18) (m * 10 ^ k) }

@@ -35,7 +35,7 @@ impl ShortLine {
         }
     }
 
-    /// Puts a text behind the line, which has at most 192 bytes with it.
+    /// Puts a text after the line, which has at most 192 bytes with it.
     pub fn push(&mut self, text: &[u8])
         requires { length self.old + length text.now ≤ 192 }
         ensures text { self.new ≡ self.old ++ text.now }
@@ -47,7 +47,7 @@ impl ShortLine {
         self.len = end;
     }
 
-    /// Puts the digits of a number behind the line, which has at most 153 bytes before.
+    /// Puts the digits of a number after the line, which has at most 153 bytes before.
     pub fn push_number(&mut self, n: u128)
         requires { length self.old + 39 ≤ 192 }
         ensures text { self.new ≡ self.old ++ decimal n }

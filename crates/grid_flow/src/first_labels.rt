@@ -7,11 +7,12 @@ use places::Precedence;
 use pseudoflow::{Labels, PseudoflowFault, WaysUp};
 use std::alloc::Global;
 
-/// The labels before the search: at most how many steps up lead from a block, at the fewest, to one of no positive worth.
+/// The labels before the search: at most how many steps up lead from a block, at the fewest, to one of no positive
+/// worth.
 ///
-/// The blocks are looked at from the last number down, so that most of those above one have their labels by then; of the others
-/// the label is 0 as yet. So no label is too high, which would lead the search astray, and some are lower than they could be,
-/// which costs it time.
+/// The blocks are looked at from the last number down, so that most of those above one have their labels by then; of
+/// the others the label is 0 as yet. So no label is too high, which would lead the search astray, and some are lower
+/// than they could be, which costs it time.
 ///
 /// # Errors
 /// `NoMemory` where memory was refused; `Broken` never.

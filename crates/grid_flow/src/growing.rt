@@ -36,14 +36,16 @@ fn copied(alloc: Global, links: &[Link]) -> Result<Vec<Link>, PseudoflowFault>
     Ok(copies)
 }
 
-/// The forest that a search of a mine leaves, whose blocks are worth so many billionths each, and the pit that it finds.
+/// The forest that a search of a mine leaves, whose blocks are worth so many billionths each, and the pit that it
+/// finds.
 ///
-/// Nothing is promised of either: that the pit is the best one, a checker says of what is made of them. At most `turns` turns are
-/// taken, of which each is one look at a block, at a way up from one, or at a label.
+/// Nothing is promised of either: that the pit is the best one, a checker says of what is made of them. At most `turns`
+/// turns are taken, of which each is one look at a block, at a way up from one, or at a label.
 ///
 /// # Errors
 /// `Unsettled` where all turns are used up; `TooLarge` where a worth doesn't fit 64 bits, or a sum doesn't fit 128;
-/// `NoMemory` where memory was refused; `Broken` where the search made a mistake, which no mine is known to bring about.
+/// `NoMemory` where memory was refused; `Broken` where the search made a mistake, which no mine is known to bring
+/// about.
 pub fn grow_by_places<P: Precedence, T: Progress>(
     alloc: Global,
     held: &P,

@@ -50,8 +50,8 @@ fn number_above<P: Precedence>(
 }
 
 impl<'a, P: Precedence> PlacedAbove<'a, P> {
-    /// The blocks of a search in the order of their numbers, so many of them, and for each block of the mine a link to its
-    /// number.
+    /// The blocks of a search in the order of their numbers, so many of them, and for each block of the mine a link to
+    /// its number.
     pub(crate) fn new(
         held: &'a P,
         blocks: Vec<Link>,

@@ -3,10 +3,8 @@ use Rattle.fixed_worth.proofs.Common.{◌≡◌, ℕ, ◌<◌, ◌≤◌, ◌*�
 use Rattle.std.proofs.lemmas.Nat.{div-mul-add, mod-mul-add}
 use Rattle.std.proofs.lemmas.List.{get_or-replicate, length-replicate}
 use Rattle.blocks_file.specs.Denotes.{BlocksView}
-use Rattle.prec_file.specs.Prelude.{IsRests}
-use Rattle.slope.specs.Prelude.{AreAllUpward, AreOwnSlopes, AreRegions as AreRegionsListed, GivePairs, HaveAllFew, IsOwnPair, IsRegion as IsRegionListed, Offset, offset_between, offsets_in, own_offsets, place_of, whole_of}
+use Rattle.slope.specs.Prelude.{AreAllUpward, AreOwnSlopes, AreRegions as AreRegionsListed, AreRightSlopes, HaveAllFew, IsOwnPair, IsRegion as IsRegionListed, Offset, offset_between, offsets_in, own_offsets, place_of, whole_of}
 use Rattle.slope.specs.declared.region_slopes.TheConstants.{MOST_REGIONS}
-use Rattle.slope.proofs.Tested.{not_more}
 use Rattle.slope.specs.declared.selection.Selection.TheVariants.{Every}
 use Rattle.slope.specs.declared.up.Up.{Up}
 use Rattle.held_pairs.specs.OwnRegions.{AreOwnRegions}
@@ -67,12 +65,11 @@ module _ (m : BlocksView) (up : Up) (listed : List (List Offset)) (regions : Lis
   regions_known : AreRegionsListed listed m
   regions_known b l = subst (IsRegionListed listed) (sym (own.each b l)) (own.below b l)
 
-  -- no fault of the slopes stands
-  pub gives_pairs : AreAllUpward listed → HaveAllFew listed → length listed ≤ MOST_REGIONS → IsRests (implied (gridded g)) → GivePairs listed m up Every
-  gives_pairs upward few most pairs = record {
+  -- nothing is wrong with the slopes
+  pub are_right : AreAllUpward listed → HaveAllFew listed → length listed ≤ MOST_REGIONS → AreRightSlopes listed m
+  are_right upward few most = record {
     placed = record { apart = placed.apart; regions = regions_known };
     upward = upward;
     few_offsets = few;
     few_regions = most;
-    few_pairs = not_more m (own_offsets listed m) up Every (implied (gridded g)) slopes_placed pairs;
   }

@@ -1,7 +1,6 @@
 -- A block has no more pairs than ways, so that few ways are few pairs.
-use Rattle.fixed_worth.proofs.Common.{◌≡◌, ℕ, zero, suc, ◌+◌, ◌<◌, ◌≤◌, ◌==◌, ◌||◌, ◌∙◌, Bool, true, false, inl, inr, Option, Some, None, length, sym, subst, refl, arith, true≢false, false_from_ne_true, cases_Bool, or_cases, eq-eqb, eqb-true, length-map, length-append, cases_eq, add-one}
+use Rattle.fixed_worth.proofs.Common.{◌≡◌, ℕ, zero, suc, ◌+◌, ◌<◌, ◌≤◌, ◌^◌, ◌==◌, ◌||◌, ◌∙◌, Bool, true, false, inl, inr, Option, Some, None, length, sym, subst, refl, arith, true≢false, false_from_ne_true, cases_Bool, or_cases, eq-eqb, eqb-true, length-map, length-append, cases_eq, add-one}
 use Rattle.prec_file.specs.Rests.{IsRests, numbers_passing}
-use Rattle.prec_file.specs.declared.limits.TheConstants.{MOST_PAIRS}
 use Rattle.prec_file.proofs.Passing.{bit, bit-true, bit-false, bit-most, length-numbers_passing}
 use Rattle.places.specs.Prelude.{PrecedenceView, IsPrecedence, any_below, implied, row_of, pairs_below}
 use Rattle.places.proofs.GridWays.{any_to}
@@ -83,6 +82,6 @@ module _ (v : PrecedenceView) (h : IsPrecedence v) where
   pub few_more : (b ways : ℕ) → length (pairs_below v.rests v.blocks b) ≤ ways → length (pairs_below v.rests v.blocks (b + 1)) ≤ ways + v.ways b
   few_more b ways l = rw (add-one b) (more b ways l)
 
-  -- few pairs are those of a list that may be held
-  pub few_rests : length (implied v).pairs ≤ MOST_PAIRS → IsRests (implied v)
+  -- so few pairs are those of a mine
+  pub few_rests : length (implied v).pairs ≤ 2 ^ 36 → IsRests (implied v)
   few_rests few = let p = (implied_is v h).pairs in record { blocks = p.blocks; few = few; known = p.known; rising = p.rising; apart = p.apart }

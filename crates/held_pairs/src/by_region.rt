@@ -1,7 +1,7 @@
 //! Who rests on whom by the offsets of each block's own region, with no list where a grid holds the places.
 
 ghost use Rattle.std.specs.Prelude.{◌≡◌, map, IfOk, IfSome, MatchResult};
-ghost use Rattle.slope.specs.Slopes.{AreOwnSlopes, GivePairs, RegionFaultStands, own_offsets};
+ghost use Rattle.slope.specs.Slopes.{AreOwnSlopes, AreRightSlopes, RegionFaultStands, own_offsets};
 ghost use Rattle.slope.specs.declared.selection.Selection.TheVariants.{Every};
 
 use crate::offsets::{are_few, lead_up};
@@ -22,7 +22,7 @@ fn placed_by_region(
     ensures made { IfSome result
         (AreOwnSlopes model.now (own_offsets (map (λ w. w.items) listed.now) model.now) up Every) }
     ensures right { IfSome result (λ _.
-        GivePairs (map (λ w. w.items) listed.now) model.now up Every) }
+        AreRightSlopes (map (λ w. w.items) listed.now) model.now) }
 {
     let count = listed.len();
     if count > MOST_REGIONS {
@@ -45,8 +45,6 @@ fn placed_by_region(
     let Some(held) = HeldPairs::of_grid(grid) else {
         return None;
     };
-    // proof: the pairs are few
-    let _few = held.len();
     Some(held)
 }
 
@@ -61,7 +59,7 @@ fn listed_by_region(
         (AreOwnSlopes model.now (own_offsets (map (λ w. w.items) listed.now) model.now) up Every)
         (RegionFaultStands (map (λ w. w.items) listed.now) model.now up Every) }
     ensures right { IfOk result (λ _.
-        GivePairs (map (λ w. w.items) listed.now) model.now up Every) }
+        AreRightSlopes (map (λ w. w.items) listed.now) model.now) }
 {
     match predecessors_by_region(alloc, model, listed, up, Selection::Every) {
         Ok(list) => {
@@ -72,11 +70,11 @@ fn listed_by_region(
     }
 }
 
-/// Who rests on whom in a model of regions: the pairs of `slope::predecessors_by_region`, every one of them. No list is made
-/// where a grid holds the places and the blocks have at most 2^27 ways together.
+/// Who rests on whom in a model of regions: the pairs of `slope::predecessors_by_region`, every one of them, and also
+/// where these are more than a list may have. No list is made where a grid holds the places.
 ///
 /// # Errors
-/// Those of `slope::predecessors_by_region`.
+/// Those of `slope::predecessors_by_region`, `TooMany` only where a list has to be made.
 pub fn held_by_region(
     alloc: Global,
     model: &BlockModel,
@@ -87,7 +85,7 @@ pub fn held_by_region(
         (AreOwnSlopes model.now (own_offsets (map (λ w. w.items) listed.now) model.now) up Every)
         (RegionFaultStands (map (λ w. w.items) listed.now) model.now up Every) }
     ensures right { IfOk result (λ _.
-        GivePairs (map (λ w. w.items) listed.now) model.now up Every) }
+        AreRightSlopes (map (λ w. w.items) listed.now) model.now) }
 {
     match placed_by_region(alloc, model, listed, up) {
         Some(held) => Ok(held),

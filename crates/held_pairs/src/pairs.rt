@@ -1,18 +1,17 @@
-//! The pairs of a mine, few enough to be counted by 32 bits, by a list or by places.
+//! The pairs of a mine, by a list or by places.
 
-ghost use Rattle.std.specs.Prelude.{◌≡◌, ◌≤◌, IsTrue, IfSome, length};
+ghost use Rattle.std.specs.Prelude.{◌≡◌, ◌≤◌, ◌^◌, IsTrue, IfSome, length};
 ghost use Rattle.prec_file.specs.Rests.{IsRests};
-ghost use Rattle.prec_file.specs.declared.limits.TheConstants.{MOST_PAIRS};
 ghost use Rattle.places.specs.Implied.{implied};
 ghost use Rattle.places.specs.Grids.{gridded};
 ghost use Rattle.places.specs.Holders.{pairs_lent};
 
 use places::{Grid, Held, HeldRef, Precedence};
-use prec_file::{MOST_PAIRS, Predecessors};
+use prec_file::Predecessors;
 use std::marker::Model;
 
-/// At most 2^27 pairs (b, p) of blocks, in which b rests on p: a list of them, or places in a box, which denote such a list and
-/// hold none.
+/// Pairs (b, p) of blocks, in which b rests on p: a list of at most 2^27, or places in a box, which denote a list of at
+/// most 2^36 and hold none. So many have 2^24 blocks of 4,096 offsets each.
 ///
 /// Contracts see the list in both cases, so that what is said of pairs by their numbers holds of either.
 #[derive(Drop)]
@@ -31,16 +30,19 @@ impl Model for HeldPairs {
     ghost invariant = { λ h. IsRests (pairs_held h.held) };
 }
 
+// The most pairs: 4,096 of each of 2^24 blocks.
+const MOST_HELD: u64 = 1 << 36;
+
 // Whether all blocks together have few ways; then there are few pairs.
 fn has_few_ways(grid: &Grid) -> bool
-    ensures { IsTrue result → length (implied (gridded grid.now)).pairs ≤ MOST_PAIRS }
+    ensures { IsTrue result → length (implied (gridded grid.now)).pairs ≤ 2 ^ 36 }
 {
     let count = grid.len();
     let mut total: u64 = 0;
     for b in 0..count {
         let more = grid.ways(b);
         total += more as u64;
-        if total > MOST_PAIRS as u64 {
+        if total > MOST_HELD {
             return false;
         }
     }
@@ -59,7 +61,7 @@ impl HeldPairs {
         }
     }
 
-    /// The pairs that a grid denotes, where its blocks have at most 2^27 ways together.
+    /// The pairs that a grid denotes, where its blocks have at most 2^36 ways together.
     pub fn of_grid(grid: Grid) -> Option<HeldPairs>
         ensures { IfSome result (λ h. h ≡ implied (gridded grid)) }
     {

@@ -31,8 +31,8 @@ pub record LockFreeCheckOverflows (net : NetView) (workers limit : ℕ) : Type 0
 abbrev pub SomeLockFreeNumberOverflows : NetView → ℕ → ℕ → Type 0
 SomeLockFreeNumberOverflows net workers limit = SomeWordOverflows net ⊎ LockFreeCheckOverflows net workers limit
 
--- Why so many workers prove no pit in so many turns. Of what is unsettled nothing is said but that there was a run: no proof speaks
--- of how far a worker came.
+-- Why so many workers prove no pit in so many turns. Of what is unsettled nothing is said but that there was a run: no
+-- proof speaks of how far a worker came.
 abbrev pub LockFreeStands : NetView → ℕ → ℕ → Unsolved → Type 0
 LockFreeStands net workers limit Unsettled = HasWords net
 LockFreeStands net workers limit TooLarge = SomeLockFreeNumberOverflows net workers limit

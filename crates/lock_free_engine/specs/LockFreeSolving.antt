@@ -33,7 +33,8 @@ AnswersNetWithoutLock price net workers limit No text = IsNoWithoutLock net work
 abbrev pub IsDueWithoutLock : Price → NetView → ℕ → ℕ → List ℕ → Type 0
 IsDueWithoutLock price net workers limit text = IsTextOf lock_free_group price net text ⊎ IsNoWithoutLock net workers limit text
 
--- what is written with it: all of it, or nothing where memory or a thread is wanted, or a front of it where a device fails
+-- what is written with it: all of it, or nothing where memory or a thread is wanted, or a front of it where a device
+-- fails
 abbrev pub SolvesNetWithoutLock : Price → NetView → ℕ → ℕ → Option (List ℕ) → Option (List ℕ) → Result Verdict EngineFault → Type 0
 SolvesNetWithoutLock price net workers limit old new (Ok verdict) = (text : List ℕ) × AnswersNetWithoutLock price net workers limit verdict text × Appends old new text
 SolvesNetWithoutLock price net workers limit old new (Err engine.Memory) = Keeps old new

@@ -3,9 +3,9 @@
 
 ghost use Rattle.lock_free_engine.specs.Tightness.{RunsAreTight};
 
-/// A run without a lock is over the net with its negative worths cut at what the source gives in all. Still the flow that it
-/// leaves is a maximum flow of the net that was handed in. What the source reaches in what the flow leaves is closed there, tight,
-/// and sums to as much as any closed set.
+/// A run without a lock is over the net with its negative worths cut at what the source gives in all. Still the flow
+/// that it leaves is a maximum flow of the net that was handed in. What the source reaches in what the flow leaves is
+/// closed there, tight, and sums to as much as any closed set.
 pub fn runs_are_tight()
     ensures { RunsAreTight }
 {}

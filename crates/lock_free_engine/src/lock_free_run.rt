@@ -22,8 +22,8 @@ use workers::Gate;
 ///
 /// # Errors
 /// - `Unsettled`: the turns were used up before all that the source gave had arrived.
-/// - `TooLarge`: the positive worths sum to 2^63 units or more; or a step brought the flow of a pair to 2^63, or would have
-///   brought a label there; or a sum of the check overflows.
+/// - `TooLarge`: the positive worths sum to 2^63 units or more; or a step brought the flow of a pair to 2^63, or would
+///   have brought a label there; or a sum of the check overflows.
 /// - `NoMemory`: memory is refused. `NoThread`: a worker can't be started.
 ///
 /// Never `GaveUp` or `Stranger`.
@@ -38,7 +38,8 @@ pub fn by_lock_free_run<R: Threads + Wait + Sync, T: Gate>(
         (λ s. IsSolution scaled_worth net.now s.flow s.pit s.count s.worth)
         (λ unsolved. LockFreeStands net.now effort.workers effort.steps unsolved) }
 {
-    // proof: what the source reaches in the flow of a run is closed and tight, and the check of such a pit fails for its sums alone
+    // proof: what the source reaches in the flow of a run is closed and tight, and the check of such a pit fails for
+    // its sums alone
     laws::runs_are_tight();
     let _worths = net.worths();
     let flow = match solve_words(rt, alloc, net, effort.workers, effort.steps, gate) {

@@ -21,15 +21,16 @@ use std::sync::Wait;
 use std::thread::Threads;
 use workers::Gate;
 
-/// Finds the best pit of a mine, where its blocks have prices at the factor that is asked for, by a run of the push-relabel
-/// machine without a lock, in amounts of the group `scaled`, and writes its certificate.
+/// Finds the best pit of a mine, where its blocks have prices at the factor that is asked for, by a run of the
+/// push-relabel machine without a lock, in amounts of the group `scaled`, and writes its certificate.
 ///
-/// `Done` where it wrote a certificate, as `engines::solve_engine` says: the check of the mine's own net has accepted its flow.
-/// `No` where it wrote `UNSETTLED`, because the workers' turns were used up before all that the source gave had arrived, or
-/// `REFUSED TooLarge`, because a total, a flow or a label reached 2^63, or a sum of the check overflows.
+/// `Done` where it wrote a certificate, as `engines::solve_engine` says: the check of the mine's own net has accepted
+/// its flow. `No` where it wrote `UNSETTLED`, because the workers' turns were used up before all that the source gave
+/// had arrived, or `REFUSED TooLarge`, because a total, a flow or a label reached 2^63, or a sum of the check
+/// overflows.
 ///
-/// The inputs are read in the order of the arguments, each to its end, and nothing is written before the answer is known. Each
-/// worker passes the gate before each of its turns.
+/// The inputs are read in the order of the arguments, each to its end, and nothing is written before the answer is
+/// known. Each worker passes the gate before each of its turns.
 ///
 /// # Errors
 /// The faults of `solve_engine`, in its order, except `Stranger`.

@@ -53,8 +53,8 @@ fn reaches(
     Ok(())
 }
 
-// The source reaches these blocks by the flow of these parts: what leaves the source, what the pairs carry, and what the
-// sink takes.
+// The source reaches these blocks by the flow of these parts: what leaves the source, what the pairs carry, and what
+// the sink takes.
 fn reaches_by(
     rt: &impl Abort,
     alloc: Global,

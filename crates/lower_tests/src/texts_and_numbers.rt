@@ -197,7 +197,7 @@ fn printed_device_faults(rt: HostRuntime) {
     prints(&rt, rt.alloc(), WriteFault::Device, "Device");
 }
 
-// A text's first line feed, and what stands behind its first byte.
+// A text's first line feed, and what stands after its first byte.
 fn is_cut(rt: &impl Abort, text: &[u8], end: Option<usize>, behind: &[u8]) {
     equal(rt, first_line_feed(text), end);
     equal(rt, behind_first(text), behind);

@@ -1,4 +1,5 @@
--- Runs in which no ReadExcess sees zero: they go on by one step, and only a block without an operation reads its excess.
+-- Runs in which no ReadExcess sees zero: they go on by one step, and only a block without an operation reads its
+-- excess.
 use Rattle.fixed_worth.proofs.Common.{◌≡◌, ℕ, List, [], ◌∷◌, ◌++◌, refl, subst, arith, common_steps}
 use Rattle.ordered_group.specs.Amount.{Amount}
 use Rattle.closure_net.specs.Network.{NetView}

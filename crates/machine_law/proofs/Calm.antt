@@ -8,7 +8,8 @@ use Rattle.machine_law.specs.declared.operations.Best.{Best}
 use Rattle.machine_law.specs.declared.operations.Operation.{Operation}
 use Rattle.machine_law.specs.Prelude.{State, supply, arcs, steep_capacity, label_seen, ports_have, is_under, IsWalk, IsLevelled}
 
--- What a step from s to t leaves to x, whose label stays: labels only rise, and x's backward arcs gain at most what its supply does.
+-- What a step from s to t leaves to x, whose label stays: labels only rise, and x's backward arcs gain at most what its
+-- supply does.
 pub record IsCalm (net : NetView) (s t : State) (x : ℕ) : Type 0 where
   pub own : t.label x ≡ s.label x
   pub labels : (i : ℕ) → s.label i ≤ t.label i

@@ -1,4 +1,5 @@
--- Runs step by step: a step leads to one state only and adds one to their number, and a run goes on by one step, or by another run.
+-- Runs step by step: a step leads to one state only and adds one to their number, and a run goes on by one step, or by
+-- another run.
 use Rattle.fixed_worth.proofs.Common.{◌≡◌, ◌+◌, List, [], ◌∷◌, ◌++◌, length, refl, ap, sym, ◌∙◌, subst, arith, common_steps}
 use Rattle.closure_net.specs.Network.{NetView}
 use Rattle.machine_law.specs.declared.events.Event.{Event}

@@ -1,4 +1,5 @@
--- What a block will have once all that is on its way has arrived, after each step: a push moves it, and nothing else does.
+-- What a block will have once all that is on its way has arrived, after each step: a push moves it, and nothing else
+-- does.
 use Rattle.fixed_worth.proofs.Common.{◌≡◌, ℕ, ◌<◌, ◌==◌, Bool, length, refl, arith, ints, common_steps}
 use Rattle.ordered_group.specs.Prelude.{Amount, zero_amount, plus, minus, where_so}
 use Rattle.ordered_group.proofs.Totals.{where_so-zero, where_so-plus, where_so-minus}

@@ -1,4 +1,5 @@
--- A closed set that nothing enters, that gives the sink all it may, and beyond which the source has given all it may, is tight.
+-- A closed set that nothing enters, that gives the sink all it may, and beyond which the source has given all it may,
+-- is tight.
 use Rattle.fixed_worth.proofs.Common.{◌≡◌, ℕ, ◌<◌, Bool, true, false, refl, arith, ints, common_steps}
 use Rattle.ordered_group.specs.Prelude.{Amount, zero_amount, plus, minus, positive, negative, total, where_so, at_end}
 use Rattle.ordered_group.proofs.Order.{positive-negative}

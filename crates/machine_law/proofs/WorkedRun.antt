@@ -1,6 +1,7 @@
--- The machine of the definitions on runs worked by hand. In the first, blocks of worth 4, -1 and 4, of which the first and the last
--- rest on the middle one, make 140 steps, in which a push waits while others pass it, and end quiet. In the second, a block rests on
--- two with the same label. The file stands by its last lines: what is seen after each row of a run is what the row says.
+-- The machine of the definitions on runs worked by hand. In the first, blocks of worth 4, -1 and 4, of which the first
+-- and the last rest on the middle one, make 140 steps, in which a push waits while others pass it, and end quiet. In
+-- the second, a block rests on two with the same label. The file stands by its last lines: what is seen after each row
+-- of a run is what the row says.
 use Rattle.std.proofs.Common.{◌≡◌, ℕ, ℤ, pos, negsuc, true, false, ◌==◌, ◌&&◌, nat_lt, Option, Some, None, List, [], ◌∷◌, map, length, refl}
 use Rattle.ordered_group.specs.Amount.{Amount}
 use Rattle.closure_net.specs.Prelude.{NetView, port_list}
@@ -47,7 +48,8 @@ label b s = pos (s.label b) ∷ []
 abbrev flow : ℕ → ℕ → State → List ℤ
 flow k b s = (s.flow k).w ∷ (s.excess b).w ∷ []
 
--- labels, excesses, flows, source amounts, the sink amount of block 1, what comes to it, what block 0 owes, what is steep at 1
+-- labels, excesses, flows, source amounts, the sink amount of block 1, what comes to it, what block 0 owes, what is
+-- steep at 1
 abbrev half_way : State → List ℤ
 half_way s = pos (s.label 0) ∷ pos (s.label 1) ∷ pos (s.label 2) ∷ (s.excess 0).w ∷ (s.excess 1).w ∷ (s.excess 2).w ∷ (s.flow 0).w ∷ (s.flow 1).w ∷ (s.source 0).w ∷ (s.source 1).w ∷ (s.source 2).w ∷ (s.sink 1).w ∷ (amount_coming net s 1).w ∷ (amount_owed (s.operation 1)).w ∷ (amount_owed (s.operation 0)).w ∷ (steep_capacity net s 1).w ∷ pos s.steps ∷ []
 

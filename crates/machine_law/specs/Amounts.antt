@@ -18,7 +18,8 @@ IsWithinBy net s b Forward slot x = Unit {0}
 IsWithinBy net s b Backward slot x = Below zero_amount x × AtMost x (capacity_by net s b Backward slot)
 IsWithinBy net s b Source slot x = Below zero_amount x × AtMost x (capacity_by net s b Source slot)
 
--- an amount that was read as the capacity of this port is positive, and at most what it is now; a forward one's isn't read
+-- an amount that was read as the capacity of this port is positive, and at most what it is now; a forward one's isn't
+-- read
 abbrev pub IsWithin : NetView → State → ℕ → Port → Amount → Type 0
 IsWithin net s b port x = IsWithinBy net s b port.kind port.slot x
 
@@ -63,8 +64,8 @@ IsOperation net s b (TakeDue d port) = IsHeld s b d × IsPortOf net b port
 IsOperation net s b (GiveDue d port) = Below zero_amount d × IsPortOf net b port
 IsOperation net s b (RaiseDue have best) = IsDue net s b have best
 
--- No amount is negative, no block has more of the source than is positive of its worth, none gave the sink more than is negative of
--- it, and what the operations remember still stands.
+-- No amount is negative, no block has more of the source than is positive of its worth, none gave the sink more than is
+-- negative of it, and what the operations remember still stands.
 pub record HasAmounts (net : NetView) (s : State) : Type 0 where
   pub excess : (b : ℕ) → AtMost zero_amount (s.excess b)
   pub source : (b : ℕ) → AtMost zero_amount (s.source b)

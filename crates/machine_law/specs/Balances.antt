@@ -13,7 +13,8 @@ balance net s b = minus (minus (plus (s.source b) (inflow_at net s.flow b)) (out
 abbrev pub supply : NetView → State → ℕ → Amount
 supply net s b = minus (plus (s.excess b) (amount_coming net s b)) (amount_owed (s.operation b))
 
--- what b has is its excess and what is coming to it, less what it owes; what was given back to the source has arrived there, or is coming; and so with the sink
+-- what b has is its excess and what is coming to it, less what it owes; what was given back to the source has arrived
+-- there, or is coming; and so with the sink
 pub record IsBalanced (net : NetView) (s : State) : Type 0 where
   pub blocks : (b : ℕ) → balance net s b ≡ supply net s b
   pub at_source : amount_given_back net s.source ≡ plus s.at_source (amount_coming_to_source net s)

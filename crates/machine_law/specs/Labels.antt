@@ -57,7 +57,8 @@ abbrev pub is_under : Option (Best Amount) → ℕ → Bool
 is_under None label = true
 is_under (Some best) label = nat_lt label best.label
 
--- the capacity of the backward arcs that are passed and end below the best port, or of all that are passed while there is none
+-- the capacity of the backward arcs that are passed and end below the best port, or of all that are passed while there
+-- is none
 abbrev pub low_capacity : NetView → State → ℕ → List Port → Option (Best Amount) → Amount
 low_capacity net s b rest best = arcs net (λ k. not (ports_have rest (backward_port (from_at net.pairs) k)) && is_under best (s.label (from_at net.pairs k))) s.flow b
 
@@ -73,7 +74,8 @@ abbrev pub IsAbove : Option (Best Amount) → ℕ → Type 0
 IsAbove None label = ⊥
 IsAbove (Some best) label = best.label ≤ label
 
--- by the kind of port: a block with this label falls by at most one label over it, unless it is backward; the source's label never changes
+-- by the kind of port: a block with this label falls by at most one label over it, unless it is backward; the source's
+-- label never changes
 abbrev pub IsNearLabel : NetView → PortKind → ℕ → ℕ → Type 0
 IsNearLabel net Backward own label = Unit {0}
 IsNearLabel net Source own label = (own ≤ label + 1) × (length net.worths + 2 ≤ label)
@@ -88,25 +90,27 @@ abbrev pub IsLevelIfAny : NetView → State → ℕ → Option (Best Amount) →
 IsLevelIfAny net s b None = Unit {0}
 IsLevelIfAny net s b (Some best) = IsBestLabel net s b best
 
--- An operation of b has these ports still to pass. The backward arcs that are passed and end below the best port hold at most what
--- b will have beyond what the operation has; the steep bound holds also with the best port at the label that was read; and of the
--- open ports that are passed none ends below the best one, nor is there any while there is no best one.
+-- An operation of b has these ports still to pass. The backward arcs that are passed and end below the best port hold
+-- at most what b will have beyond what the operation has; the steep bound holds also with the best port at the label
+-- that was read; and of the open ports that are passed none ends below the best one, nor is there any while there is no
+-- best one.
 pub record IsWalk (net : NetView) (s : State) (b : ℕ) (have : Amount) (rest : List Port) (best : Option (Best Amount)) : Type 0 where
   pub level : IsLevelIfAny net s b best
   pub low_most : AtMost (low_capacity net s b rest best) (minus (supply net s b) have)
   pub high_most : AtMost (high_capacity net s b best) (supply net s b)
   pub passed : (p : Port) → IsPortOf net b p → IsOpenBy net s b p.kind → ports_have rest p ≡ false → IsAbove best (end_label net s p)
 
--- what holds of an operation of b: a push is due where the block stands above the best port, and a raise where it doesn't
+-- what holds of an operation of b: a push is due where the block stands above the best port, and a raise where it
+-- doesn't
 abbrev pub IsLevelled : NetView → State → ℕ → Operation Amount → Type 0
 IsLevelled net s b (Scan have place read best) = IsWalk net s b have (drop place (ports net b)) best
 IsLevelled net s b (PushDue have best) = IsWalk net s b have [] (Some best) × (best.label < s.label b)
 IsLevelled net s b (RaiseDue have best) = IsWalk net s b have [] (Some best) × (s.label b ≤ best.label)
 IsLevelled net s b _ = Unit {0}
 
--- Forward arcs, and those to the sink and the source that have capacity, fall by at most one label: the sink stands at 0, the source
--- at n + 2. A block that has given anything back to the source stands above it. The steep backward arcs of a block hold at most what
--- the block will have.
+-- Forward arcs, and those to the sink and the source that have capacity, fall by at most one label: the sink stands at
+-- 0, the source at n + 2. A block that has given anything back to the source stands above it. The steep backward arcs
+-- of a block hold at most what the block will have.
 pub record HasLabels (net : NetView) (s : State) : Type 0 where
   pub forward : (k : ℕ) → k < length net.pairs → s.label (from_at net.pairs k) ≤ s.label (to_at net.pairs k) + 1
   pub sink : (b : ℕ) → Below zero_amount (room net s b) → s.label b ≤ 1

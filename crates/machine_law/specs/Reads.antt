@@ -20,8 +20,8 @@ abbrev pub better_of : {N : Type 0} → Option (Best N) → Best N → Best N
 better_of None new = new
 better_of (Some best) new = if nat_lt new.label best.label then new else best
 
--- After the last port is passed: a push is due where the block stands above the best port, and otherwise a raise. Where no
--- port was best, the operation ends.
+-- After the last port is passed: a push is due where the block stands above the best port, and otherwise a raise. Where
+-- no port was best, the operation ends.
 abbrev pub after_last_port : {N : Type 0} → ℕ → N → Option (Best N) → Operation N
 after_last_port label have None = Idle
 after_last_port label have (Some best) = if nat_lt best.label label then PushDue have best else RaiseDue have best

@@ -23,7 +23,8 @@ capacity_by net s b Source slot = s.source b
 abbrev pub capacity : NetView → State → ℕ → Port → Amount
 capacity net s b port = capacity_by net s b port.kind port.slot
 
--- by the kind of port, where the block at the other end has the label h: the sink stands at 0, the source above all blocks
+-- by the kind of port, where the block at the other end has the label h: the sink stands at 0, the source above all
+-- blocks
 abbrev pub label_beyond : NetView → PortKind → ℕ → ℕ
 label_beyond net Sink h = 0
 label_beyond net Source h = length net.worths + 2
@@ -33,7 +34,8 @@ label_beyond net _ h = h
 abbrev pub end_label : NetView → State → Port → ℕ
 end_label net s port = label_beyond net port.kind (s.label port.other)
 
--- by the kind of port: its pair is one of the net's and has b and the other block as its ends; there is none at the sink and the source
+-- by the kind of port: its pair is one of the net's and has b and the other block as its ends; there is none at the
+-- sink and the source
 abbrev pub IsEnd : NetView → ℕ → PortKind → ℕ → ℕ → Type 0
 IsEnd net b Forward other slot = (slot < length net.pairs) × (from_at net.pairs slot ≡ b) × (to_at net.pairs slot ≡ other)
 IsEnd net b Backward other slot = (slot < length net.pairs) × (to_at net.pairs slot ≡ b) × (from_at net.pairs slot ≡ other)

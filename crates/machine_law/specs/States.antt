@@ -5,8 +5,8 @@ use Rattle.closure_net.specs.Network.{NetView}
 use Rattle.machine_law.specs.declared.operations.Operation.{Operation}
 use Rattle.machine_law.specs.declared.operations.Operation.TheVariants.{Idle}
 
--- For each block its excess, its label, what it has of the source, what it gave the sink, and what it is doing; for each
--- pair its flow; what has arrived back at the source and at the sink; and how many steps were made.
+-- For each block its excess, its label, what it has of the source, what it gave the sink, and what it is doing; for
+-- each pair its flow; what has arrived back at the source and at the sink; and how many steps were made.
 pub record State : Type 0 where
   pub excess : ℕ → Amount
   pub label : ℕ → ℕ

@@ -1,4 +1,5 @@
--- The steps of the machine (Hong 2008) as what a block's operation leads to, and runs. `Table` has the same by the kind of step.
+-- The steps of the machine (Hong 2008) as what a block's operation leads to, and runs. `Table` has the same by the kind
+-- of step.
 use Rattle.std.specs.Prelude.{◌≡◌, ℕ, ◌+◌, ◌<◌, Option, Some, None, List, [], ◌∷◌, length, slice_get}
 use Rattle.ordered_group.specs.Amount.{Amount, zero_amount, plus, minus, lesser_amount}
 use Rattle.closure_net.specs.Prelude.{NetView, ports}
@@ -146,8 +147,8 @@ pub record IsStateOfRun (net : NetView) (s : State) : Type 0 where
 abbrev pub ReadsNoZero : State → Event → Type 0
 ReadsNoZero s e = e.kind ≡ ReadExcess → ¬ (s.excess e.block ≡ zero_amount)
 
--- A run in which no ReadExcess sees zero, so only a block with excess begins an operation, and in which the state after each
--- step is one that is allowed.
+-- A run in which no ReadExcess sees zero, so only a block with excess begins an operation, and in which the state after
+-- each step is one that is allowed.
 abbrev pub ActiveRun : (State → Type 0) → NetView → State → List Event → State → Type 0
 ActiveRun allowed net s [] t = t ≡ s
 ActiveRun allowed net s (e ∷ es) t = (u : State) × Step net s e u × ReadsNoZero s e × allowed u × ActiveRun allowed net u es t

@@ -31,8 +31,9 @@ pub record ReadsCapacity (net : NetView) (s : State) (b : ℕ) (t : State) : Typ
   pub limited : port.kind ≢ Forward
   pub after : t ≡ with_operation s b (after_capacity (length (ports net b)) (s.label b) have place best (capacity net s b port))
 
--- The present port is forward, or its capacity was read; b sees the label at the other end, and passes the port, which becomes the
--- best one if there was none or its label is less. It is recorded with the capacity that was read, a forward one with zero.
+-- The present port is forward, or its capacity was read; b sees the label at the other end, and passes the port, which
+-- becomes the best one if there was none or its label is less. It is recorded with the capacity that was read, a
+-- forward one with zero.
 pub record ReadsLabel (net : NetView) (s : State) (b : ℕ) (t : State) : Type 0 where
   pub have : Amount
   pub place : ℕ
@@ -45,7 +46,8 @@ pub record ReadsLabel (net : NetView) (s : State) (b : ℕ) (t : State) : Type 0
   pub due : ((port.kind ≡ Forward) × (read ≡ None) × (recorded ≡ zero_amount)) ⊎ (read ≡ Some recorded)
   pub after : t ≡ with_operation s b (after_label (length (ports net b)) (s.label b) have place best recorded port (end_label net s port))
 
--- a push is due, and the best port isn't forward: the flow of the pair or what b has of the source falls, or what it gave the sink rises
+-- a push is due, and the best port isn't forward: the flow of the pair or what b has of the source falls, or what it
+-- gave the sink rises
 pub record TakesCapacity (net : NetView) (s : State) (b : ℕ) (t : State) : Type 0 where
   pub have : Amount
   pub best : Best Amount

@@ -15,7 +15,8 @@ abbrev pub amount_owed : Operation Amount → Amount
 amount_owed (TakeDue d port) = d
 amount_owed _ = zero_amount
 
--- what counts of a push that has made its capacity step and has not arrived, where f says what counts of an amount over a port
+-- what counts of a push that has made its capacity step and has not arrived, where f says what counts of an amount over
+-- a port
 abbrev pub on_way : (Port → Amount → Amount) → Operation Amount → Amount
 on_way f (TakeDue d port) = f port d
 on_way f (GiveDue d port) = f port d

@@ -103,8 +103,8 @@ fn sixty_four_workers_take_the_turns_of_a_run(rt: HostRuntime) {
     holds(&rt, gate.all_met() && audit.is_ok());
 }
 
-// The last of 64 workers takes its first turn before all others, then the one before it, and so on. None takes a second turn before
-// all have taken the first.
+// The last of 64 workers takes its first turn before all others, then the one before it, and so on. None takes a second
+// turn before all have taken the first.
 #[derive(Drop)]
 struct LastFirst<R: Clock + Sync + Drop> {
     clock: R,
@@ -136,7 +136,8 @@ fn begins_with_the_last(rt: &impl Abort, history: &[Event]) {
     }
 }
 
-// Each of 64 workers looks at first from the block of its own number, and takes it where it has excess, as all have here.
+// Each of 64 workers looks at first from the block of its own number, and takes it where it has excess, as all have
+// here.
 #[test]
 fn sixty_four_workers_are_started(rt: HostRuntime) {
     let alloc = rt.alloc();

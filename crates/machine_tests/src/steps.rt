@@ -31,8 +31,8 @@ const GE: Kind = Kind::GiveExcess;
 
 const RA: Kind = Kind::RaiseLabel;
 
-// A state in whole values: the labels and the excess of the blocks, the flows of the pairs, what the blocks have of the source,
-// and what block 1 gave the sink.
+// A state in whole values: the labels and the excess of the blocks, the flows of the pairs, what the blocks have of the
+// source, and what block 1 gave the sink.
 type After = ([u64; 3], [i128; 3], [i128; 2], [i128; 3], i128);
 
 // A block, and the kinds of steps that it makes one after another.

@@ -36,8 +36,8 @@ pub fn two_on_dear_waste(alloc: Global) -> Result<Net<Scaled>, Fail> {
     net_of(alloc, &[(0, 2), (1, 2)], &DEAR_WASTE)
 }
 
-// While one worker waits for a processor the other goes round its blocks and loads the arrivals, each load a turn: no small limit
-// will do.
+// While one worker waits for a processor the other goes round its blocks and loads the arrivals, each load a turn: no
+// small limit will do.
 const MANY_TURNS: u64 = 1_000_000_000;
 
 // A run by so many workers leaves this pit.
@@ -55,8 +55,8 @@ fn leaves_the_pit<R: Abort + Threads + Wait + Sync>(
     Ok(())
 }
 
-// In whatever order the steps come: two on dear waste; worth what it costs; each on the other; a priced model at two factors; a
-// cost beyond any word; the greatest total.
+// In whatever order the steps come: two on dear waste; worth what it costs; each on the other; a priced model at two
+// factors; a cost beyond any word; the greatest total.
 #[test]
 fn runs_leave_the_best_pits(rt: HostRuntime) -> Result<(), Fail> {
     let cases: [(&[(u32, u32)], &[i128], &[u32]); 7] = [
@@ -90,8 +90,8 @@ fn runs_leave_the_best_pits(rt: HostRuntime) -> Result<(), Fail> {
     Ok(())
 }
 
-// The last two are a flow of 2^63 in a ring, in the second push over its first pair; where there are two workers, the one that
-// comes to it has to tell the other, which else would wait until its turns are over.
+// The last two are a flow of 2^63 in a ring, in the second push over its first pair; where there are two workers, the
+// one that comes to it has to tell the other, which else would wait until its turns are over.
 #[test]
 fn faults_of_runs(rt: HostRuntime) -> Result<(), Fail> {
     let cases: [(&[(u32, u32)], &[i128], u32, u64, SolveFault); 8] = [
@@ -133,7 +133,7 @@ struct Counting {
 impl Gate for Counting {
     fn turn(&self, _worker: u32, turn: u64) {
         let before = self.turns.fetch_add(1, SeqCst);
-        // a turn that isn't the one behind the last is counted a hundredfold
+        // a turn that isn't the one after the last is counted a hundredfold
         if turn != before {
             self.turns.fetch_add(100, SeqCst);
         }
@@ -209,7 +209,8 @@ fn held_back<R: Abort + Clock + Threads + Wait + Sync + Copy + Drop>(
     Ok(())
 }
 
-// The block's tenth step gives its excess to the source. Until it is made the other worker goes on, and it isn't before the gate.
+// The block's tenth step gives its excess to the source. Until it is made the other worker goes on, and it isn't before
+// the gate.
 #[test]
 fn a_worker_passes_the_gate_before_its_turn(rt: HostRuntime) -> Result<(), Fail> {
     held_back(rt, rt.alloc(), MANY_TURNS, 9, 100)

@@ -124,7 +124,7 @@ fn a_worker_of_no_blocks_asks_from_the_first(rt: HostRuntime) {
     asks_from(&rt, asked.questions[2], 0);
 }
 
-// Idle for whoever asks, a hundred times. Both the gate and what is behind it: a question is in its turn
+// Idle for whoever asks, a hundred times. Both the gate and what is after it: a question is in its turn
 // where the gate was passed just before it.
 #[derive(Drop)]
 struct Idler {

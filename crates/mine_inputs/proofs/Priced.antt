@@ -85,7 +85,7 @@ pub price_places : (columns : PriceColumns) → length (column_list columns) ≡
 price_places (Plain revenue cost) = refl
 price_places (Treated ways mining) = length-append (way_list ways) (mining ∷ []) ∙ ap (λ n. n + 1) (way_list-length ways)
 
--- the others stand behind the columns of prices
+-- the others stand after the columns of prices
 pub beside_is : (columns : PriceColumns) (others : List ℕ) → columns_beside columns others ≡ column_list columns ++ others
 beside_is columns [] = sym (append-nil (column_list columns))
 beside_is columns (x ∷ xs) = refl
@@ -128,7 +128,7 @@ ways_are ways others text m d =
     let made : way_from m i ≡ way_cells text (get_or ways i way_none) = λ j. record { revenue = r j; processing = p j } in
     get_or-map-range_with_len (way_from m) 0 (length ways) i i way_zero inside (omega arith) ∙ made ∙ sym (get_or-map (way_cells text) ways i way_none way_zero inside))
 
--- the prices that are made of the columns of a model are those of its text, whatever is chosen behind them
+-- the prices that are made of the columns of a model are those of its text, whatever is chosen after them
 pub first_columns_are : (columns : PriceColumns) (others text : List ℕ) (m : BlocksView) → Denotes (column_list columns ++ others) text m → first_columns columns m ≡ table_at columns text
 first_columns_are (Plain revenue cost) others text m d =
     let r = column_is (revenue ∷ cost ∷ others) text m 0 d (omega arith) in

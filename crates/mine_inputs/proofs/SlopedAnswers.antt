@@ -37,7 +37,7 @@ column_of_text : (chosen text : List ℕ) (m : BlocksView) (i : ℕ) → Denotes
 column_of_text chosen text m i d h =
     sym (read_again (get_or m.columns i []) m.blocks (λ b. get_or (get_or m.columns i []) b (pos 0)) (d.all_values i h) (λ b l. refl)) ∙ column_is chosen text m i d h
 
--- the column that stands behind all others
+-- the column that stands after all others
 column_last : (xs : List ℕ) (other : ℕ) (text : List ℕ) (m : BlocksView) → Denotes (xs ++ (other ∷ [])) text m → get_or m.columns (length xs) [] ≡ cells text other
 column_last xs other text m d =
     column_of_text (xs ++ (other ∷ [])) text m (length xs) d (omega (arith, length_push xs other)) ∙ ap (cells text) (get_or_push xs other 0 (length xs) refl)
@@ -54,7 +54,7 @@ placed_is xs (Some other) text m d =
     let column = column_last xs other text m d in
     λ i. record { blocks = count i; places = places i; columns = column i ∷ [] }
 
--- where the column of regions is read behind those of prices and others, as many as these
+-- where the column of regions is read after those of prices and others, as many as these
 pub regions_placed : (columns : PriceColumns) (others : List ℕ) (region : Option ℕ) (text : List ℕ) (m : BlocksView) → Denotes (columns_beside columns (others ++ columns_for region)) text m
     → narrowed (column_after (place_beside columns + length others) region) m ≡ model_in (columns_for region) text
 regions_placed columns others region text m d =

@@ -67,7 +67,8 @@ abbrev pub MineSlopesFail : MineTexts → SlopeProblem → Type 0
 MineSlopesFail (sloped_texts settings blocks factor) p = SlopesFail (settings_of settings) (placed_in (settings_of settings) blocks) p
 MineSlopesFail _ p = ⊥
 
--- Why the texts of a mine aren't read: the fault stands, and none before it does. Want of memory and a failing device say nothing of them.
+-- Why the texts of a mine aren't read: the fault stands, and none before it does. Want of memory and a failing device
+-- say nothing of them.
 abbrev pub MineFails : MineTexts → EngineFault → Type 0
 MineFails texts (engine.Upit p) = ValuesFail texts p
 MineFails texts (engine.Settings p) = SettingsFail texts p

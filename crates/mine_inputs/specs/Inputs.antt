@@ -46,7 +46,8 @@ PrecReadFails n text _ = ⊥
 abbrev pub ReadsSettingsText : List Key → List ℕ → SettingsView → Type 0
 ReadsSettingsText unused text said = IsWithinLimit text × ReadsSettings text (Ok said) × (first_unused unused said ≡ None)
 
--- a fault of the text of settings, a key that isn't used, want of memory or a failing device; that a key is missing is told later
+-- a fault of the text of settings, a key that isn't used, want of memory or a failing device; that a key is missing is
+-- told later
 abbrev pub SettingsReadFails : List Key → List ℕ → EngineFault → Type 0
 SettingsReadFails unused text (engine.Settings problem.InputTooLong) = IsTooLong text
 SettingsReadFails unused text (engine.Settings (problem.Fault fault)) = IsWithinLimit text × SettingsFaultStands (λ s. []) unused text fault
@@ -87,8 +88,8 @@ PricedMineFails settings text precedence engine.Memory = Unit {0}
 PricedMineFails settings text precedence engine.Device = Unit {0}
 PricedMineFails settings text precedence _ = ⊥
 
--- What was read of the texts of a mine whose settings list slopes: the settings, which have all keys that they need, and the blocks
--- with the columns of prices and of regions.
+-- What was read of the texts of a mine whose settings list slopes: the settings, which have all keys that they need,
+-- and the blocks with the columns of prices and of regions.
 pub record AreSlopedTexts (settings text : List ℕ) (said : SettingsView) (columns : PriceColumns) (m : BlocksView) : Type 0 where
   pub settings_read : ReadsSettingsText [] settings said
   pub whole : first_missing (sloped_keys said) said ≡ None

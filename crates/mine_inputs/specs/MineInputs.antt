@@ -8,8 +8,8 @@ use Rattle.mine_inputs.specs.Mines.{MineTexts, mine_texts, priced_texts, sloped_
 
 -- ---- texts
 
--- P holds of the texts of the mine with this precedence and at this factor, where the devices of what its blocks are worth tell
--- their bytes. Of values the factor is none.
+-- P holds of the texts of the mine with this precedence and at this factor, where the devices of what its blocks are
+-- worth tell their bytes. Of values the factor is none.
 abbrev pub ForWorths : {D : Type 0} → WorthInputs D → (D → Option (List ℕ)) → ℕ → List ℕ → (MineTexts → Type 0) → Type 0
 ForWorths (Values upit) remaining factor precedence P = IfSome (remaining upit) (λ u. P (mine_texts u precedence))
 ForWorths (Prices settings blocks) remaining factor precedence P = IfSome (remaining settings) (λ s. IfSome (remaining blocks) (λ b. P (priced_texts s b precedence factor)))

@@ -13,14 +13,15 @@ use Rattle.mine_inputs.specs.PricedTexts.{table_of, PricesRead, PricesReadBy}
 use Rattle.mine_inputs.specs.SlopedTexts.{rests_said, SlopesRead, placed_in, prices_and_slopes}
 
 -- The texts that denote a mine: the values of its blocks and their precedence; or settings, blocks with columns of
--- prices, the precedence, and the factor in thousandths at which the blocks' revenues count; or the same with no precedence, where
--- settings list slopes, by which the blocks' places say which block rests on which.
+-- prices, the precedence, and the factor in thousandths at which the blocks' revenues count; or the same with no
+-- precedence, where settings list slopes, by which the blocks' places say which block rests on which.
 pub data MineTexts : Type 0 where
   mine_texts : (values precedence : List ℕ) → MineTexts
   priced_texts : (settings blocks precedence : List ℕ) (factor : ℕ) → MineTexts
   sloped_texts : (settings blocks : List ℕ) (factor : ℕ) → MineTexts
 
--- What says which block rests on which where the blocks have prices: a text of its own, or the slopes that settings list.
+-- What says which block rests on which where the blocks have prices: a text of its own, or the slopes that settings
+-- list.
 pub data PrecedenceBy : Type 0 where
   by_text : (precedence : List ℕ) → PrecedenceBy
   by_slopes : PrecedenceBy

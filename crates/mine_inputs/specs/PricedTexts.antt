@@ -19,8 +19,8 @@ use Rattle.mine_inputs.specs.declared.columns_of_prices.PriceColumns.TheVariants
 use Rattle.mine_inputs.specs.Limits.{IsTooLong, IsWithinLimit}
 use Rattle.mine_inputs.specs.BlockTexts.{BlocksFails}
 
--- The keys that are needed where ways are listed or not, and where there is a mill or none, with these others, in the order in
--- which they are missed: costs come before the others, and the charges of ways and of a mill behind them.
+-- The keys that are needed where ways are listed or not, and where there is a mill or none, with these others, in the
+-- order in which they are missed: costs come before the others, and the charges of ways and of a mill after them.
 abbrev pub keys_by : (ways mill : Bool) → List Key → List Key
 keys_by true mill others = others ++ (Mining ∷ [])
 keys_by false true others = Revenue ∷ (others ++ (Processing ∷ Mining ∷ []))
@@ -35,7 +35,8 @@ abbrev pub replaced_by : Bool → List Key
 replaced_by true = Revenue ∷ Cost ∷ Processing ∷ []
 replaced_by false = []
 
--- the first key of which no use is made and at which there is something: those in whose place ways stand come before these others
+-- the first key of which no use is made and at which there is something: those in whose place ways stand come before
+-- these others
 abbrev pub first_unused : List Key → SettingsView → Option Key
 first_unused others s = first_said (replaced_by (is_said s Ways) ++ others) s
 
@@ -43,12 +44,14 @@ first_unused others s = first_said (replaced_by (is_said s Ways) ++ others) s
 abbrev pub slope_keys : List Key
 slope_keys = Slopes ∷ Region ∷ Up ∷ []
 
--- the keys that are needed beside those of prices: slopes before the others where blocks rest on one another by slopes (true)
+-- the keys that are needed beside those of prices: slopes before the others where blocks rest on one another by slopes
+-- (true)
 abbrev pub others_by : Bool → List Key → List Key
 others_by true others = Slopes ∷ others
 others_by false others = others
 
--- the keys of which no use is made: those of slopes where the precedence is a text of its own (false), and none otherwise
+-- the keys of which no use is made: those of slopes where the precedence is a text of its own (false), and none
+-- otherwise
 abbrev pub unused_by : Bool → List Key
 unused_by true = []
 unused_by false = slope_keys
@@ -57,8 +60,8 @@ unused_by false = slope_keys
 abbrev pub mill_way : SettingsView → WayColumns
 mill_way s = record { revenue = unwrap_or s.revenue 0; processing = unwrap_or s.processing 0 }
 
--- The columns of prices that settings name, by the ways that they list, if any, and whether they name a charge of a mill. A mill is
--- one way.
+-- The columns of prices that settings name, by the ways that they list, if any, and whether they name a charge of a
+-- mill. A mill is one way.
 abbrev pub columns_by : Option (List WayColumns) → Bool → SettingsView → PriceColumns
 columns_by (Some ways) mill s = Treated ways (unwrap_or s.mining 0)
 columns_by None true s = Treated (mill_way s ∷ []) (unwrap_or s.mining 0)
@@ -73,17 +76,18 @@ abbrev pub way_list : List WayColumns → List ℕ
 way_list [] = []
 way_list (way ∷ ways) = way.revenue ∷ way.processing ∷ way_list ways
 
--- The columns of prices in the order in which they are chosen of the blocks: revenues and costs, or those of the ways and then mining.
+-- The columns of prices in the order in which they are chosen of the blocks: revenues and costs, or those of the ways
+-- and then mining.
 abbrev pub column_list : PriceColumns → List ℕ
 column_list (Plain revenue cost) = revenue ∷ cost ∷ []
 column_list (Treated ways mining) = way_list ways ++ (mining ∷ [])
 
--- the columns of prices that are chosen of the blocks, and behind them the others
+-- the columns of prices that are chosen of the blocks, and after them the others
 abbrev pub columns_beside : PriceColumns → List ℕ → List ℕ
 columns_beside columns [] = column_list columns
 columns_beside columns (other ∷ others) = column_list columns ++ (other ∷ others)
 
--- how many columns of prices there are, which is the place of the first other column behind them
+-- how many columns of prices there are, which is the place of the first other column after them
 abbrev pub place_beside : PriceColumns → ℕ
 place_beside (Plain revenue cost) = 2
 place_beside (Treated ways mining) = 2 * length ways + 1
@@ -112,7 +116,8 @@ way_from m i = record { revenue = values_of m (2 * i); processing = values_of m 
 abbrev pub ways_from : ℕ → BlocksView → List WayView
 ways_from count m = map (way_from m) (range_with_len 0 count)
 
--- The prices that the first of the chosen columns of a model make: its revenues and its costs, or its ways and then mining.
+-- The prices that the first of the chosen columns of a model make: its revenues and its costs, or its ways and then
+-- mining.
 abbrev pub first_columns : PriceColumns → BlocksView → PricesView
 first_columns (Plain revenue cost) m = plain_prices (values_of m 0) (values_of m 1)
 first_columns (Treated ways mining) m = treated_prices (ways_from (length ways) m) (values_of m (2 * length ways))
@@ -134,8 +139,8 @@ table_by s text = table_at (columns_said s) text
 abbrev pub table_of : List ℕ → List ℕ → PricesView
 table_of settings text = table_by (settings_of settings) text
 
--- The text of settings is read, and says something at each of the keys that such settings need, and nothing at those of which
--- no use is made.
+-- The text of settings is read, and says something at each of the keys that such settings need, and nothing at those of
+-- which no use is made.
 pub record KeysSaid (needed : SettingsView → List Key) (unused : List Key) (settings : List ℕ) : Type 0 where
   pub within : IsWithinLimit settings
   pub read : AreSettings settings
@@ -146,8 +151,8 @@ pub record KeysSaid (needed : SettingsView → List Key) (unused : List Key) (se
 abbrev pub ColumnsKnown : List ℕ → Type 0
 ColumnsKnown settings = KeysSaid price_keys slope_keys settings
 
--- What a mine of prices wants of its settings and its blocks: the keys that settings need, by what they say; those of which no use is
--- made; and the columns that are chosen of the blocks.
+-- What a mine of prices wants of its settings and its blocks: the keys that settings need, by what they say; those of
+-- which no use is made; and the columns that are chosen of the blocks.
 pub record Wanted : Type 0 where
   pub needed : SettingsView → List Key
   pub unused : List Key
@@ -169,8 +174,8 @@ pub record PricesReadBy (w : Wanted) (settings text : List ℕ) (n : ℕ) : Type
 abbrev pub PricesRead : List ℕ → List ℕ → ℕ → Type 0
 PricesRead settings text n = PricesReadBy prices_alone settings text n
 
--- a fault of settings that need the first of these keys, where no use is made of the others: one of the text, a key that isn't
--- used, or one that is missing; want of memory isn't one
+-- a fault of settings that need the first of these keys, where no use is made of the others: one of the text, a key
+-- that isn't used, or one that is missing; want of memory isn't one
 abbrev pub SettingsFaultStands : (SettingsView → List Key) → List Key → List ℕ → SettingsFault → Type 0
 SettingsFaultStands needed unused text settings_fault.NoMemory = ⊥
 SettingsFaultStands needed unused text (settings_fault.Unused key) = AreSettings text × (first_unused unused (settings_of text) ≡ Some key)

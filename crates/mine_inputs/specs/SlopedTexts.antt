@@ -1,5 +1,5 @@
--- What settings say of slopes by region: which block rests on which; and the mine that settings and blocks denote with no precedence
--- beside them.
+-- What settings say of slopes by region: which block rests on which; and the mine that settings and blocks denote with
+-- no precedence beside them.
 use Rattle.std.specs.Prelude.{ℕ, Bool, List, [], ◌∷◌, map, Option, Some, None, unwrap_or}
 use Rattle.std.specs.List.{range_with_len}
 use Rattle.blocks_file.specs.Denotes.{BlocksView}
@@ -9,7 +9,7 @@ use Rattle.settings_file.specs.declared.keys.Key.{Key}
 use Rattle.settings_file.specs.declared.keys.Key.TheVariants.{Slopes, Ways}
 use Rattle.settings_file.specs.declared.up_sign.UpSign.{UpSign}
 use Rattle.settings_file.specs.declared.up_sign.UpSign.TheVariants.{Plus, Minus}
-use Rattle.slope.specs.Prelude.{GivePairs, Offset, RegionFaultStands, rests_by_slopes}
+use Rattle.slope.specs.Prelude.{AreRightSlopes, Offset, RegionFaultStands, rests_by_slopes}
 use Rattle.slope.specs.declared.selection.Selection.TheVariants.{Every}
 use Rattle.slope.specs.declared.up.Up.{Up}
 use Rattle.slope.specs.declared.up.Up.TheVariants.{PlusZ, MinusZ}
@@ -41,13 +41,14 @@ up_by None = PlusZ
 abbrev pub up_said : SettingsView → Up
 up_said s = up_by s.up
 
--- Whether block b rests on block p by settings and blocks: p stands from b at an offset that the settings list for b's own region.
+-- Whether block b rests on block p by settings and blocks: p stands from b at an offset that the settings list for b's
+-- own region.
 abbrev pub rests_said : SettingsView → BlocksView → ℕ → ℕ → Bool
 rests_said s m = rests_by_slopes (slopes_said s) m (up_said s)
 
--- no fault of the slopes that settings list stands in the blocks
+-- nothing is wrong with the slopes that settings list, in the blocks; how many pairs they give is not asked
 abbrev pub SlopesRead : SettingsView → BlocksView → Type 0
-SlopesRead s m = GivePairs (slopes_said s) m (up_said s) Every
+SlopesRead s m = AreRightSlopes (slopes_said s) m
 
 -- this fault of the slopes that settings list stands; want of memory isn't a fault of slopes
 abbrev pub SlopesFail : SettingsView → BlocksView → SlopeProblem → Type 0
@@ -79,7 +80,7 @@ sloped_columns s = columns_beside (columns_said s) (region_columns s)
 abbrev pub prices_and_slopes : Wanted
 prices_and_slopes = record { needed = sloped_keys; unused = []; chosen = sloped_columns }
 
--- the place of the column of regions behind so many others, where settings name it
+-- the place of the column of regions after so many others, where settings name it
 abbrev pub column_after : ℕ → Option ℕ → Option ℕ
 column_after others None = None
 column_after others (Some region) = Some others

@@ -18,8 +18,8 @@ pub enum PriceColumns {
     Treated { ways: WayList, mining: u32 },
 }
 
-/// The columns of prices that settings name: those of ways where they list them, else of the one way of a mill where they
-/// name one of its charges, else of revenues and costs.
+/// The columns of prices that settings name: those of ways where they list them, else of the one way of a mill where
+/// they name one of its charges, else of revenues and costs.
 ///
 /// # Errors
 /// `Settings` with the first key that is missing, of those that the prices need and these others: where ways are listed
@@ -132,7 +132,7 @@ pub(crate) fn are_few(columns: &PriceColumns)
     }
 }
 
-/// How many columns of prices there are: the place behind them of the first other column of
+/// How many columns of prices there are: the place after them of the first other column of
 /// [`priced_blocks_from`](crate::priced_blocks_from).
 pub fn place_beside(columns: &PriceColumns) -> u32
     ensures { result ≡ place_beside columns.now }

@@ -1,5 +1,5 @@
-//! Reads the inputs of a mine for a check: who rests on whom is held by a list, or by the places of the blocks where settings list
-//! slopes, so that no list is made of them.
+//! Reads the inputs of a mine for a check: who rests on whom is held by a list, or by the places of the blocks where
+//! settings list slopes, so that no list is made of them.
 
 ghost use Rattle.std.specs.Prelude.{◌≡◌, ◌+◌, ◌-◌, ◌^◌, ◌<◌, ℕ, List, length, IfSome, MatchResult, IsErrOf};
 ghost use Rattle.blocks_file.specs.Denotes.{narrowed};
@@ -45,8 +45,8 @@ fn held_said(
     }
 }
 
-// Who rests on whom by the slopes that settings list, among blocks of which the column behind so many others says in which
-// region each is, where the settings name it.
+// Who rests on whom by the slopes that settings list, among blocks of which the column after so many others says in
+// which region each is, where the settings name it.
 fn held_by_slopes(
     alloc: Global,
     model: &BlockModel,
@@ -135,8 +135,8 @@ fn held_listed(mine: MineToCheck) -> HeldMine
     }
 }
 
-/// The mine that its texts denote, as a check of a certificate needs it: where slopes say who rests on whom, no list of pairs
-/// is made, if a grid holds the places.
+/// The mine that its texts denote, as a check of a certificate needs it: where slopes say who rests on whom, no list of
+/// pairs is made, if a grid holds the places.
 ///
 /// # Errors
 /// Those of [`crate::mine_to_check`].

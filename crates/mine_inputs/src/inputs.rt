@@ -49,12 +49,12 @@ pub fn blocks_from<R: CountedRead>(
     }
 }
 
-/// The predecessors of each of n blocks, without the pairs and the index by predecessor, which a solver needs and a check
-/// doesn't.
+/// The predecessors of each of n blocks, without the pairs and the index by predecessor, which a solver needs and a
+/// check doesn't.
 ///
 /// # Errors
-/// `Prec` for more than 2^32 bytes, or for a fault of [`read_predecessors`]. `Memory` where memory is refused, `Device` where
-/// a read fails.
+/// `Prec` for more than 2^32 bytes, or for a fault of [`read_predecessors`]. `Memory` where memory is refused, `Device`
+/// where a read fails.
 pub fn predecessors_from<R: CountedRead>(
     alloc: Global,
     from: &mut R,

@@ -1,14 +1,16 @@
 //! The inputs of a mine: texts read to their ends, the mine that they denote, and what is wrong with them.
 //!
 //! Stands on the crates of files (`blocks_file`, `prec_file`, `upit_file`, `settings_file`) for what a text says, on
-//! `shells` for prices, and on `closure_net` for mines; faults name those of `slope`, `trace_file` and certificates too.
-//! Promises upward:
+//! `shells` for prices, and on `closure_net` for mines; faults name those of `slope`, `trace_file` and certificates
+//! too. Promises upward:
 //!
-//! - Each reader gives what its text says, or the first fault of the text, and says so of the bytes that the device told.
-//!   An input has at most 2^32 bytes.
-//! - [`mine_to_check`], [`held_mine`] and [`mine_to_solve`] give the mine that its texts denote, of whichever kind, or a fault
-//!   that stands in them, and none before it does. Where slopes say who rests on whom, [`held_mine`] makes no list of the pairs.
-//! - A failed read is answered as `Device`, and nothing else is: the devices have then counted one failure more together.
+//! - Each reader gives what its text says, or the first fault of the text, and says so of the bytes that the device
+//!   told. An input has at most 2^32 bytes.
+//! - [`mine_to_check`], [`held_mine`] and [`mine_to_solve`] give the mine that its texts denote, of whichever kind, or
+//!   a fault that stands in them, and none before it does. Where slopes say who rests on whom, [`held_mine`] makes no
+//!   list of the pairs.
+//! - A failed read is answered as `Device`, and nothing else is: the devices have then counted one failure more
+//!   together.
 #![tactic(auto)]
 
 mod checked_mine;

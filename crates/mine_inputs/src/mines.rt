@@ -127,9 +127,9 @@ pub(crate) fn listed_mine<D: CountedRead>(
 /// The mine that its texts denote, as a check needs it. Which factor the prices count at is asked later.
 ///
 /// # Errors
-/// Of values: `Upit`. Of prices, in this order: `Settings` for a fault of this text or a missing key; `Blocks`; `Prices`
-/// for a negative revenue. Then `Prec`; or, where slopes say what rests on what, `Slope` with the first fault of
-/// `predecessors_by_region`. `Memory` where memory is refused, `Device` where a read fails.
+/// Of values: `Upit`. Of prices, in this order: `Settings` for a fault of this text or a missing key; `Blocks`;
+/// `Prices` for a negative revenue. Then `Prec`; or, where slopes say what rests on what, `Slope` with the first fault
+/// of `predecessors_by_region`. `Memory` where memory is refused, `Device` where a read fails.
 pub fn mine_to_check<D: CountedRead>(
     alloc: Global,
     inputs: &mut MineInputs<D>,

@@ -21,8 +21,8 @@ use std::alloc::{AllocError, Global};
 /// asked later.
 ///
 /// # Errors
-/// `Settings` for more than 2^32 bytes, for a fault of [`read_settings`], or for the first key that is there and of which no
-/// use is made: revenue, cost and processing beside ways, and then these keys.
+/// `Settings` for more than 2^32 bytes, for a fault of [`read_settings`], or for the first key that is there and of
+/// which no use is made: revenue, cost and processing beside ways, and then these keys.
 /// `Memory` where memory is refused, `Device` where a read fails.
 pub fn settings_from<R: CountedRead>(
     alloc: Global,
@@ -57,8 +57,8 @@ fn settings_in(alloc: Global, text: &[u8], unused: &[Key]) -> Result<Settings, E
     }
 }
 
-// The first key of which no use is made and at which settings say something: where they list ways these stand in the place
-// of revenue, cost and processing, and those come before the keys of the command.
+// The first key of which no use is made and at which settings say something: where they list ways these stand in the
+// place of revenue, cost and processing, and those come before the keys of the command.
 fn first_unused(settings: &Settings, unused: &[Key]) -> Option<Key>
     ensures { result ≡ first_unused unused.now settings.now }
 {
@@ -129,7 +129,7 @@ pub fn prices_from<R: CountedRead>(
     prices_of(alloc, &model, columns)
 }
 
-// Puts the columns of ways behind those that are chosen, of each its revenue and then its processing.
+// Puts the columns of ways after those that are chosen, of each its revenue and then its processing.
 fn push_ways(chosen: &mut Vec<u32>, ways: &[WayColumns]) -> Result<(), AllocError>
     ensures { OnOk result (chosen.new.items ≡ chosen.old.items ++ way_list ways.now) }
 {
@@ -140,7 +140,7 @@ fn push_ways(chosen: &mut Vec<u32>, ways: &[WayColumns]) -> Result<(), AllocErro
     Ok(())
 }
 
-// The numbers of the columns of prices, and behind them the others.
+// The numbers of the columns of prices, and after them the others.
 fn columns_beside(
     alloc: Global,
     columns: &PriceColumns,
@@ -163,7 +163,7 @@ fn columns_beside(
     Ok(chosen)
 }
 
-/// The blocks of a text with the columns of their prices and, behind these, at most two others.
+/// The blocks of a text with the columns of their prices and, after these, at most two others.
 ///
 /// # Errors
 /// Those of [`blocks_from`].
@@ -190,8 +190,8 @@ pub fn priced_blocks_from<R: CountedRead>(
     blocks_from(alloc, from, chosen.as_slice())
 }
 
-/// The prices of the blocks of a model in the first of its chosen columns: the revenues and the costs, or of each way its
-/// revenues and what its processing costs, and then what mining costs. The numbers of the columns aren't looked at.
+/// The prices of the blocks of a model in the first of its chosen columns: the revenues and the costs, or of each way
+/// its revenues and what its processing costs, and then what mining costs. The numbers of the columns aren't looked at.
 ///
 /// # Errors
 /// `Prices` for a negative revenue. `Memory` where memory is refused.

@@ -92,7 +92,7 @@ pub fn regional_blocks_from<R: CountedRead>(
     }
 }
 
-// The place of the column of regions behind so many others, where there is one.
+// The place of the column of regions after so many others, where there is one.
 pub(crate) fn column_after(others: u32, region: Option<u32>) -> Option<u32>
     ensures { result ≡ column_after others region }
 {
@@ -132,8 +132,8 @@ fn pairs_said(
     }
 }
 
-/// Who rests on whom by the slopes that settings list, among blocks of which the column behind so many others says in which
-/// region each is, where the settings name it.
+/// Who rests on whom by the slopes that settings list, among blocks of which the column after so many others says in
+/// which region each is, where the settings name it.
 ///
 /// # Errors
 /// `Slope` with the first fault of `predecessors_by_region`. `Memory` where memory is refused.

@@ -48,7 +48,7 @@ impl WayList {
         }
     }
 
-    // Puts these ways behind those that are held.
+    // Puts these ways after those that are held.
     fn push(&mut self, ways: &[WayColumns])
         requires { length self.old + length ways.now ≤ MOST_WAYS }
         ensures { self.new ≡ self.old ++ ways.now }

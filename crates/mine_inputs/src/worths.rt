@@ -45,8 +45,8 @@ impl Worths {
         }
     }
 
-    /// The factor at which blocks are worth what a certificate's price says; none where that is a price of another kind of
-    /// model. Values have one price, and are the same at every factor.
+    /// The factor at which blocks are worth what a certificate's price says; none where that is a price of another kind
+    /// of model. Values have one price, and are the same at every factor.
     pub fn factor_of(&self, price: Price) -> Option<Factor>
         ensures { MatchOption result ((k : ℕ) → k ≤ MOST_FACTOR → price ≢ price_at self.now k)
             (λ factor. (price ≡ price_at self.now factor) × (factor ≡ factor_at price)) }

@@ -33,7 +33,7 @@ worth_rises true false x y h l = absurd (let i = h refl in cc)
 worth_rises false true x y h l = omega (arith, ints)
 worth_rises false false x y h l = omega arith
 
--- where no block is worth less, a set within another falls behind it by no less
+-- where no block is worth less, a set within another falls after it by no less
 pub lead_rises : (v w : ℕ → ℤ) (e c : ℕ → Bool) (n : ℕ) → ((b : ℕ) → b < n → e b ≡ true → c b ≡ true) → ((b : ℕ) → b < n → v b ≤ℤ w b)
     → (worth_in w e n +ℤ worth_in v c n) ≤ℤ (worth_in w c n +ℤ worth_in v e n)
 lead_rises v w e c zero h r = omega arith

@@ -10,8 +10,9 @@ use Rattle.periods_file.specs.declared.periods_fault.PeriodsFault.TheVariants.{N
 use Rattle.periods_file.specs.Keys.{key_name, all_known}
 use Rattle.periods_file.specs.Values.{weights_of, resources_of, rows_of, lag_of}
 
--- What periods say: weights in millionths, the columns of resources, and row by row for each resource what each period has of it in
--- whole units, and its price there in billionths; the columns of the blocks for which blocks wait, and how many periods they wait.
+-- What periods say: weights in millionths, the columns of resources, and row by row for each resource what each period
+-- has of it in whole units, and its price there in billionths; the columns of the blocks for which blocks wait, and how
+-- many periods they wait.
 pub record PeriodsView : Type 0 where
   pub weights : List ℕ
   pub resources : List ℕ

@@ -59,8 +59,8 @@ are_falling (n ∷ ns) = is_above_first n ns && are_falling ns
 abbrev pub are_weights : List ℕ → Bool
 are_weights ns = (nat_le 1 (length ns) && nat_le (length ns) 1000) && are_falling ns
 
--- What a value reads as that has to be weights: 1 to 1,000 whole numbers of millionths from 0 to 1,000,000, none above the one
--- before it.
+-- What a value reads as that has to be weights: 1 to 1,000 whole numbers of millionths from 0 to 1,000,000, none above
+-- the one before it.
 abbrev pub weights_of : Data → Option (List ℕ)
 weights_of d = if_holds are_weights (numbers_of 1000000 d)
 

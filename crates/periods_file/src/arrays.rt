@@ -1,5 +1,5 @@
-//! Reads the arrays of periods: weights, columns of resources, and rows of capacities or of prices. Of a value that is no
-//! such array it gives nothing.
+//! Reads the arrays of periods: weights, columns of resources, and rows of capacities or of prices. Of a value that is
+//! no such array it gives nothing.
 
 ghost use Rattle.std.specs.Prelude.{◌≡◌, ◌≤◌, ◌<◌, ◌^◌, IfOk, IfSome, length, option_map};
 ghost use Rattle.toml.specs.View.{view, array_view};

@@ -3,8 +3,9 @@
 //!
 //! It stands on the kit's `toml`, which parses the text into a table of values, and on `fixed_worth`.
 //!
-//! Upward it promises: [`read_periods`] gives exactly what `specs/Periods` says that the text denotes, or its first fault. A
-//! document is what `toml`'s own grammar says; `specs/Keys` has the keys and `specs/Values` what a value at one of them may be.
+//! Upward it promises: [`read_periods`] gives exactly what `specs/Periods` says that the text denotes, or its first
+//! fault. A document is what `toml`'s own grammar says; `specs/Keys` has the keys and `specs/Values` what a value at
+//! one of them may be.
 #![tactic(auto)]
 
 mod arrays;

@@ -3,11 +3,12 @@
 use crate::keys::PeriodKey;
 use std::fmt;
 
-/// What is wrong with periods. The fault that stands first here is answered; and of several keys that are missing or have a
-/// bad value the first in the order of [`PeriodKey`].
+/// What is wrong with periods. The fault that stands first here is answered; and of several keys that are missing or
+/// have a bad value the first in the order of [`PeriodKey`].
 #[derive(Clone, Copy, Debug, PartialEq, Eq)]
 pub enum PeriodsFault {
-    /// The text is no TOML document: also where it is no UTF-8, names a key twice, or has a whole number of more than 64 bits.
+    /// The text is no TOML document: also where it is no UTF-8, names a key twice, or has a whole number of more than
+    /// 64 bits.
     NotToml,
     /// A name of the document's table is none of the keys.
     UnknownKey,

@@ -1,5 +1,5 @@
-//! Reads the text of periods: gives the value of each of its keys, or says that it is no TOML, has an unknown key, a bad
-//! value, or lacks a key.
+//! Reads the text of periods: gives the value of each of its keys, or says that it is no TOML, has an unknown key, a
+//! bad value, or lacks a key.
 
 ghost use Rattle.std.specs.Prelude.{◌≡◌, ◌≤◌, Ok, Err, IfOk, IfErr, MatchResult, [], length, option_map};
 ghost use Rattle.toml.specs.View.{table_view};
@@ -190,9 +190,9 @@ fn periods_of(alloc: Global, table: &Table) -> Result<Periods, PeriodsFault>
 /// What a text says as periods.
 ///
 /// # Errors
-/// In this order: `NotToml` where the text is no TOML document; `UnknownKey` where a name of its table is no key; `Missing` or
-/// `BadValue` with the first key that isn't there, or whose value is of a wrong kind or out of its range. `NoMemory` where
-/// memory is refused.
+/// In this order: `NotToml` where the text is no TOML document; `UnknownKey` where a name of its table is no key;
+/// `Missing` or `BadValue` with the first key that isn't there, or whose value is of a wrong kind or out of its range.
+/// `NoMemory` where memory is refused.
 pub fn read_periods(alloc: Global, bytes: &[u8]) -> Result<Periods, PeriodsFault>
     ensures read { MatchResult result
         (λ p. ReadsPeriods bytes.now (Ok (periods_view p)))

@@ -302,7 +302,8 @@ fn unplanned(fault: PlanFault) -> Result<Ending, EngineFault> {
     }
 }
 
-// Draws the shells of the mine of three files or makes its bench table, and tells how far it is where that is asked for.
+// Draws the shells of the mine of three files or makes its bench table, and tells how far it is where that is asked
+// for.
 fn series<R: Files + Print + Eprint + Clock + Threads + Wait + Sync + AllocGlobal>(
     rt: &R,
     args: SeriesArgs<'_>,

@@ -30,9 +30,9 @@ pub const PROGRESS_ALONE: Tells = Tells {
 
 /// Tells on standard error, at most once a second, how far a solver is, and how many seconds have passed: of
 /// pseudoflow the blocks that are settled; of the machine the steps that were made and what share of the limit that is.
-/// Of shells and of the bench table it tells each factor at which a pit is proved. As a gate of the machine it is always
-/// open. It counts turns: those of one worker each make a step; of several workers some find nothing to do, and are
-/// counted too.
+/// Of shells and of the bench table it tells each factor at which a pit is proved. As a gate of the machine it is
+/// always open. It counts turns: those of one worker each make a step; of several workers some find nothing to do, and
+/// are counted too.
 #[derive(Drop)]
 pub struct Meter<'a, R> {
     rt: &'a R,

@@ -1,5 +1,5 @@
-//! Runs the engines of `check`, `replay`, `value`, `schedule`, `bound` and `slopes` on files: opens all files of a command before
-//! any is read, and gives the engine's answer.
+//! Runs the engines of `check`, `replay`, `value`, `schedule`, `bound` and `slopes` on files: opens all files of a
+//! command before any is read, and gives the engine's answer.
 
 ghost use Rattle.engines.specs.Slopes.{IsChoice};
 
@@ -90,7 +90,8 @@ pub fn uses_file<'a>(uses: Option<&'a str>, model: ModelArgs<'a>) -> &'a str {
     }
 }
 
-/// Judges the schedule of a file over the mine of files and its periods, beside the bound of a certificate where one is named.
+/// Judges the schedule of a file over the mine of files and its periods, beside the bound of a certificate where one is
+/// named.
 ///
 /// # Errors
 /// `Device` where a file can't be opened; then those of the engine.
@@ -156,7 +157,8 @@ pub fn bound_files<'a, R: Files + Print + Eprint + Threads + Sync + AllocGlobal>
     )
 }
 
-/// Writes the predecessors of each block of a file, by a pattern. A greater z is higher, where no option says otherwise.
+/// Writes the predecessors of each block of a file, by a pattern. A greater z is higher, where no option says
+/// otherwise.
 ///
 /// # Errors
 /// `Device` where a file can't be opened; then those of the engine.

@@ -1,9 +1,9 @@
-//! The commands on files, but for those of a series: what the arguments of each ask for, or the value that names nothing that
-//! there is; then each opens all files before any is read, and gives its engine's answer.
+//! The commands on files, but for those of a series: what the arguments of each ask for, or the value that names
+//! nothing that there is; then each opens all files before any is read, and gives its engine's answer.
 //!
-//! Uses `command_line`, which has the arguments as texts, the engines of `check`, `solve`, `replay`, `value`, `schedule`,
-//! `bound` and `slopes`, which read names and numbers, and `pit_files` for the files. It promises no more than to be safe: an engine's contract says what it
-//! answers.
+//! Uses `command_line`, which has the arguments as texts, the engines of `check`, `solve`, `replay`, `value`,
+//! `schedule`, `bound` and `slopes`, which read names and numbers, and `pit_files` for the files. It promises no more
+//! than to be safe: an engine's contract says what it answers.
 #![tactic(auto)]
 
 mod files;

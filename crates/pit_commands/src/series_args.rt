@@ -1,5 +1,5 @@
-//! How `shells` and `report` are to solve a mine, by their arguments; those that would write the table of blocks over an input
-//! are refused.
+//! How `shells` and `report` are to solve a mine, by their arguments; those that would write the table of blocks over
+//! an input are refused.
 
 use crate::solve_args::{effort_asked, method_asked};
 use crate::wrong;

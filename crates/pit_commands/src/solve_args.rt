@@ -1,5 +1,5 @@
-//! How a mine is to be solved, by the arguments of `solve`: the defaults of its options first, and then each option as what it
-//! names, or the value that names nothing that there is.
+//! How a mine is to be solved, by the arguments of `solve`: the defaults of its options first, and then each option as
+//! what it names, or the value that names nothing that there is.
 
 ghost use Rattle.std.specs.Prelude.{◌≤◌, IfOk};
 
@@ -15,8 +15,8 @@ use shells::Factor;
 use traced_engine::room_named;
 use workers::MOST_WORKERS;
 
-// The most steps of a run of the machine, where no option says: how long it runs can't be told from a mine's size, so it is
-// bounded. Pseudoflow isn't, but by the most that the option takes.
+// The most steps of a run of the machine, where no option says: how long it runs can't be told from a mine's size, so
+// it is bounded. Pseudoflow isn't, but by the most that the option takes.
 const USUAL_STEPS: u64 = 1_000_000_000;
 
 // How many workers there are, where no option says.
@@ -158,8 +158,8 @@ fn effort_without_lock<'a>(args: SolveArgs<'a>) -> Result<LockFreeEffort, WrongV
 ///
 /// # Errors
 /// The value that names nothing, with its option.
-// Steps are the push-relabel machine's, so that `auto` leaves the choice to it where they are given; workers say only how
-// many it has where it runs.
+// Steps are the push-relabel machine's, so that `auto` leaves the choice to it where they are given; workers say only
+// how many it has where it runs.
 pub(crate) fn effort_asked<'a>(
     command: Commanded,
     method: Method,

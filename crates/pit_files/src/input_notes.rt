@@ -15,8 +15,8 @@ enum Topic {
     Blocks,
 }
 
-/// What was read of an input, as far as it is told of. It has the same parts whatever that is, so that there is one way to
-/// give it back: a command has several inputs, and gives each back wherever it ends early.
+/// What was read of an input, as far as it is told of. It has the same parts whatever that is, so that there is one way
+/// to give it back: a command has several inputs, and gives each back wherever it ends early.
 #[derive(Drop)]
 pub struct Heard<'a> {
     topic: Topic,

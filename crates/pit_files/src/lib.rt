@@ -1,9 +1,9 @@
-//! The files of a command and its output: opened, with their failures counted, and telling the user on standard error why
-//! they failed, where that is asked for.
+//! The files of a command and its output: opened, with their failures counted, and telling the user on standard error
+//! why they failed, where that is asked for.
 //!
-//! Uses `engines`, for what a mine is read from, and `settings_file` and `slope`, to say why an input is refused. Of a device
-//! that it opens it promises that no failure is counted yet; and that what stands between the device and an engine gives, takes
-//! and holds the bytes of the device, and hands on each failure.
+//! Uses `engines`, for what a mine is read from, and `settings_file` and `slope`, to say why an input is refused. Of a
+//! device that it opens it promises that no failure is counted yet; and that what stands between the device and an
+//! engine gives, takes and holds the bytes of the device, and hands on each failure.
 #![tactic(auto)]
 
 mod advice;

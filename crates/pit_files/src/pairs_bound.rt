@@ -24,8 +24,8 @@ pub fn offsets_of(alloc: Global, choice: PatternChoice) -> u64
     }
 }
 
-/// The records of blocks, counted while they are read, beside the number of offsets, if it is asked for, which is known once
-/// they are read.
+/// The records of blocks, counted while they are read, beside the number of offsets, if it is asked for, which is known
+/// once they are read.
 #[derive(Drop)]
 pub struct PairsBound<'a> {
     offsets: Option<&'a AtomicU64>,
@@ -53,7 +53,8 @@ impl<'a> PairsBound<'a> {
         }
     }
 
-    /// Tells how many pairs there may be, where that is more than may be written: each block has at most one for each offset.
+    /// Tells how many pairs there may be, where that is more than may be written: each block has at most one for each
+    /// offset.
     pub fn tell<R: Eprint>(&self, rt: &R) {
         let Some(offsets) = self.offsets else {
             return;

@@ -8,8 +8,8 @@ use std::io::Write;
 use std::rt::Files;
 
 /// A file that is to be written from its beginning. It is opened as it is, and emptied at the first write: until then
-/// it may be read under the same name or by a link. What it takes and holds is what the file takes and holds; of emptying,
-/// which is a call of the system's, nothing is said.
+/// it may be read under the same name or by a link. What it takes and holds is what the file takes and holds; of
+/// emptying, which is a call of the system's, nothing is said.
 #[derive(Drop)]
 pub struct Replaced<F> {
     file: F,

@@ -13,10 +13,10 @@ use std::io;
 use std::io::{Printer, Read, Write};
 use std::rt::Files;
 
-/// A file, or standard output, under its name. What it gives, takes and holds is what the device gives, takes and holds: it
-/// hands on each byte and each failure. It reports on standard error, where that was asked for: the system's reason for
-/// each call that fails, whose failure is handed on; a file that begins with the mark of UTF-8; and, for the output of a
-/// command that solves, what to try where the line says that no pit is proved.
+/// A file, or standard output, under its name. What it gives, takes and holds is what the device gives, takes and
+/// holds: it hands on each byte and each failure. It reports on standard error, where that was asked for: the system's
+/// reason for each call that fails, whose failure is handed on; a file that begins with the mark of UTF-8; and, for the
+/// output of a command that solves, what to try where the line says that no pit is proved.
 #[derive(Drop)]
 pub struct Told<'a, R, D> {
     rt: &'a R,
@@ -173,8 +173,8 @@ impl<R: Eprint, D: Write> Write for Told<'_, R, D> {
     }
 }
 
-// Tells what couldn't be done with what, and why. The engine answers by the failure itself, so nothing depends on whether
-// anybody can be told.
+// Tells what couldn't be done with what, and why. The engine answers by the failure itself, so nothing depends on
+// whether anybody can be told.
 fn tell<R: Eprint>(rt: &R, verbose: bool, what: &str, name: &str, why: io::Error) {
     if verbose {
         let name = Escaped { text: name };

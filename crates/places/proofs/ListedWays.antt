@@ -8,8 +8,8 @@ use Rattle.prec_file.proofs.Pairs.{rests_of_pair, pair_of_rests}
 use Rattle.places.specs.Prelude.{ArePairs, IsPrecedence, Leads, listed}
 
 -- a block has few ways
-pub few_ways : (r : RestsView) → IsRests r → (b : ℕ) → length (above_of r.pairs b) ≤ MOST_PAIRS
-few_ways r h b = omega (arith, h.few, length-map (numbers (from_at r.pairs) b (length r.pairs)) (to_at r.pairs), passing_most (λ k. from_at r.pairs k == b) (length r.pairs))
+pub few_ways : (r : RestsView) → length r.pairs ≤ MOST_PAIRS → (b : ℕ) → length (above_of r.pairs b) ≤ MOST_PAIRS
+few_ways r most b = omega (arith, most, length-map (numbers (from_at r.pairs) b (length r.pairs)) (to_at r.pairs), passing_most (λ k. from_at r.pairs k == b) (length r.pairs))
 
 -- a way leads to a block of a pair
 listed_sound : (r : RestsView) → IsRests r → (b p k : ℕ) → Leads (listed r) b p k → IsTrue (has_pair r.pairs b p)

@@ -10,7 +10,8 @@ use Rattle.places.specs.declared.padded_box.PaddedBox.{PaddedBox}
 abbrev pub cell_of : ℕ → ℕ → ℕ → ℕ → ℕ → ℕ
 cell_of sx sy x y z = (z * sy + y) * sx + x
 
--- A place is in the box, in this cell: its row and its level go on behind it by twice the padding, so that no offset leads into the next.
+-- A place is in the box, in this cell: its row and its level go on after it by twice the padding, so that no offset
+-- leads into the next.
 pub record IsIn (s : PaddedBox) (up : Up) (place : Place) (cell : ℕ) : Type 0 where
   pub x : ℕ
   pub y : ℕ

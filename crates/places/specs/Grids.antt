@@ -5,8 +5,9 @@ use Rattle.places.specs.Ways.{PrecedenceView}
 use Rattle.places.specs.declared.cells.GridFault.{GridFault}
 use Rattle.places.specs.declared.cells.GridFault.TheVariants.{SamePlace, TooWide, NoMemory}
 
--- Of each block its cell in the box without padding on its low sides, and its region; what leads from there to its own cell in the padded
--- box; where each region's deltas begin, and all deltas; and of each cell of the padded box its block and one, or 0.
+-- Of each block its cell in the box without padding on its low sides, and its region; what leads from there to its own
+-- cell in the padded box; where each region's deltas begin, and all deltas; and of each cell of the padded box its
+-- block and one, or 0.
 pub record GridView : Type 0 where
   pub lows : List ℕ
   pub regions : List ℕ
@@ -61,7 +62,8 @@ rests_at g b p = (nat_lt b (length g.lows) && nat_lt p (length g.lows)) && leads
 abbrev pub gridded : GridView → PrecedenceView
 gridded g = record { blocks = length g.lows; rests = rests_at g; ways = ways_at g; way = way_at g }
 
--- Each block has a region with deltas; no delta leads out of the padded box, or nowhere; each block is in its cell, and in no other.
+-- Each block has a region with deltas; no delta leads out of the padded box, or nowhere; each block is in its cell, and
+-- in no other.
 pub record IsGrid (g : GridView) : Type 0 where
   pub blocks : length g.lows ≤ MOST_BLOCKS
   pub regions : length g.regions ≡ length g.lows

@@ -1,5 +1,5 @@
--- The list of pairs that a precedence denotes: a definition that nothing computes, so that what is said of pairs by their numbers stays
--- said where none is held.
+-- The list of pairs that a precedence denotes: a definition that nothing computes, so that what is said of pairs by
+-- their numbers stays said where none is held.
 use Rattle.std.specs.Prelude.{◌≤◌, All, IsTrue, Contains, ℕ, zero, suc, Bool, List, [], ◌++◌, map}
 use Rattle.fixed_worth.specs.declared.limits.TheConstants.{MOST_BLOCKS}
 use Rattle.prec_file.specs.Rests.{numbers_passing, RestsView, IsKnown, IsRising, AreApart}
@@ -18,8 +18,8 @@ pairs_below test n (suc m) = pairs_below test n m ++ row_of test n m
 abbrev pub implied : PrecedenceView → RestsView
 implied v = record { blocks = v.blocks; pairs = pairs_below v.rests v.blocks v.blocks }
 
--- What the pairs of every precedence are: of few blocks, in order and each once, and none of a block with itself. How many they are is bounded
--- by no number: a list that is held has a limit of its own.
+-- What the pairs of every precedence are: of few blocks, in order and each once, and none of a block with itself. How
+-- many they are is bounded by no number: a list that is held has a limit of its own.
 pub record ArePairs (r : RestsView) : Type 0 where
   pub blocks : r.blocks ≤ MOST_BLOCKS
   pub known : All (IsKnown r.blocks) r.pairs

@@ -3,8 +3,8 @@ use Rattle.std.specs.Prelude.{◌≡◌, ℕ, ◌<◌, ◌≤◌, Bool, IsTrue, 
 use Rattle.fixed_worth.specs.declared.limits.TheConstants.{MOST_BLOCKS}
 use Rattle.prec_file.specs.Rests.{RestsView, has_pair, above_of}
 
--- How many blocks there are, whether one rests on another, how many ways lead up from a block, and the block to which a way leads, if
--- one is there.
+-- How many blocks there are, whether one rests on another, how many ways lead up from a block, and the block to which a
+-- way leads, if one is there.
 pub record PrecedenceView : Type 0 where
   pub blocks : ℕ
   pub rests : ℕ → ℕ → Bool
@@ -16,7 +16,8 @@ pub record Leads (v : PrecedenceView) (b p k : ℕ) : Type 0 where
   pub inside : k < v.ways b
   pub there : v.way b k ≡ Some p
 
--- What every precedence is: few blocks; the ways lead to just the blocks that a block rests on; these are blocks, and never itself.
+-- What every precedence is: few blocks; the ways lead to just the blocks that a block rests on; these are blocks, and
+-- never itself.
 pub record IsPrecedence (v : PrecedenceView) : Type 0 where
   pub few : v.blocks ≤ MOST_BLOCKS
   pub sound : (b p k : ℕ) → b < v.blocks → Leads v b p k → IsTrue (v.rests b p)

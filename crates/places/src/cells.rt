@@ -11,7 +11,8 @@ use std::alloc::Global;
 pub enum GridFault {
     /// The second block is in the cell of the first.
     SamePlace(u32, u32),
-    /// The parts don't fit one another, or the padded box has too many cells. Nothing is claimed of it: the caller takes a list.
+    /// The parts don't fit one another, or the padded box has too many cells. Nothing is claimed of it: the caller
+    /// takes a list.
     TooWide,
     /// Memory was refused.
     NoMemory,

@@ -145,7 +145,8 @@ impl Grid {
     /// The grid of these parts.
     ///
     /// # Errors
-    /// `TooWide` where they don't fit one another, `SamePlace` with the first block in the cell of an earlier one, and `NoMemory`.
+    /// `TooWide` where they don't fit one another, `SamePlace` with the first block in the cell of an earlier one, and
+    /// `NoMemory`.
     pub fn of_parts(alloc: Global, parts: GridParts) -> Result<Grid, GridFault>
         ensures all { IfOk result spec.IsGrid }
         ensures made { MatchResult result

@@ -94,7 +94,8 @@ fn greatest(numbers: &[u32], other: u32) -> u32 {
     most
 }
 
-// The most cells that a grid of so many blocks may have: a box that is all but empty would cost more memory than a list.
+// The most cells that a grid of so many blocks may have: a box that is all but empty would cost more memory than a
+// list.
 fn most_cells(blocks: usize) -> u64 {
     (blocks as u64).saturating_mul(64).saturating_add(1 << 24)
 }
@@ -128,12 +129,13 @@ fn parted(
     })
 }
 
-/// The grid of a model's blocks, each of a region, with the offsets of each region: b rests on p exactly where p stands at an offset of
-/// b's own region from it. The differences are whole numbers without bound, so that no offset leads round the ends of the coordinates.
+/// The grid of a model's blocks, each of a region, with the offsets of each region: b rests on p exactly where p stands
+/// at an offset of b's own region from it. The differences are whole numbers without bound, so that no offset leads
+/// round the ends of the coordinates.
 ///
 /// # Errors
-/// `SamePlace` with the first block that has the place of an earlier one; `TooWide`, of which nothing is claimed, where a block's
-/// region has no offsets, an offset leads nowhere, or the padded box has too many cells; and `NoMemory`.
+/// `SamePlace` with the first block that has the place of an earlier one; `TooWide`, of which nothing is claimed, where
+/// a block's region has no offsets, an offset leads nowhere, or the padded box has too many cells; and `NoMemory`.
 pub fn grid_of(
     alloc: Global,
     model: &BlockModel,

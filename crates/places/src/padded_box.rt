@@ -7,8 +7,8 @@ ghost use Rattle.places.specs.Boxes.{IsIn, IsRaised, cell_of};
 use blocks_file::{BlockModel, Place};
 use slope::Up;
 
-/// The box of a grid: its least coordinates, the third counted upward; how many cells a row has, and rows a level; and how far
-/// offsets reach along each axis.
+/// The box of a grid: its least coordinates, the third counted upward; how many cells a row has, and rows a level; and
+/// how far offsets reach along each axis.
 #[derive(Clone, Copy)]
 pub(crate) struct PaddedBox {
     pub(crate) lx: i64,
@@ -91,7 +91,8 @@ pub(crate) fn centre_of(of: &PaddedBox) -> Option<u32>
     cell_at(of.sx, of.sy, of.px, of.py, of.pz)
 }
 
-// How far offsets reach along each axis, upward not counted. Nothing is claimed: what doesn't fit the box is found where it is laid out.
+// How far offsets reach along each axis, upward not counted. Nothing is claimed: what doesn't fit the box is found
+// where it is laid out.
 fn padding_of(slopes: &[Vec<(i32, i32, i32)>]) -> (u32, u32, u32) {
     let mut most = (0, 0, 0);
     for offsets in slopes {

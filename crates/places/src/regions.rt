@@ -37,7 +37,8 @@ fn region_in(value: Micros, count: usize) -> Option<u8>
     }
 }
 
-/// The region of each block, by its value of the column that was chosen as the i-th: a whole number below that of the regions.
+/// The region of each block, by its value of the column that was chosen as the i-th: a whole number below that of the
+/// regions.
 ///
 /// # Errors
 /// `NoRegion` with the first block whose value is no such number, and `NoMemory`.

@@ -42,7 +42,7 @@ firsts_more ps r n k firsts filled h l known size more kept put = record {
 pub firsts_same : (ps : List (ℕ × ℕ)) (n k : ℕ) (firsts : List ℕ) → FirstsSoFar ps n k firsts → from_at ps k < length firsts → FirstsSoFar ps n (k + 1) firsts
 firsts_same ps n k firsts h l = grind (arith, common_steps)
 
--- what is put for the blocks behind the last pair
+-- what is put for the blocks after the last pair
 pub firsts_all : (ps : List (ℕ × ℕ)) (n : ℕ) (firsts filled : List ℕ) → FirstsSoFar ps n (length ps) firsts → length filled ≡ n + 1
     → ((i : ℕ) → i < length firsts → get_or filled i 0 ≡ get_or firsts i 0) → ((i : ℕ) → length firsts ≤ i → i < length filled → get_or filled i 0 ≡ length ps) → IsStarts (from_at ps) (length ps) n filled
 firsts_all ps n firsts filled h size kept put = record {

@@ -40,6 +40,7 @@ rows_skipped n next b count ps firsts filled predecessors h l m e size kept put 
     let all = rows_length n next ps firsts predecessors h in
     record {
       rests = h.rests;
+      few = h.few;
       within = m;
       listed = λ k i. let u = h.listed k i in omega arith;
       predecessors = h.predecessors;

@@ -1,4 +1,4 @@
--- The next block's pairs behind those of the blocks before it.
+-- The next block's pairs after those of the blocks before it.
 use Rattle.fixed_worth.proofs.Common.{◌≡◌, ℕ, zero, suc, ◌+◌, ◌-◌, ◌<◌, ◌≤◌, Bool, nat_lt, inl, inr, List, [], ◌∷◌, ◌++◌, length, get_or, map, sym, refl, ap, subst, ◌∙◌, arith, length-append, All, Contains, cases_lt, get_or_append_left, get_or-append_right, get_or_push, length-map, map-append, All-append, All-weaker, All-contains, All-contains_itself, Contains-append_cases, common_steps}
 use Rattle.prec_file.specs.declared.limits.TheConstants.{MOST_PAIRS}
 use Rattle.fixed_worth.specs.declared.limits.TheConstants.{MOST_BLOCKS}
@@ -50,16 +50,19 @@ module _ (n next : ℕ) (ps row : List (ℕ × ℕ)) (firsts predecessors : List
     ]
   ]
 
+  most_more : length (ps ++ row) ≤ MOST_PAIRS
+  most_more = omega (arith, size, few)
+
   rests_more : IsRests (record { blocks = n; pairs = ps ++ row })
   rests_more = record {
     blocks = h.rests.blocks;
-    few = omega (arith, size, few);
+    few = omega (arith, most_more);
     known = All-append (IsKnown n) ps row h.rests.known (All-weaker (IsOfBlock n next) (IsKnown n) (λ p k. let e = k.0 in (omega arith, k.1)) row own);
     rising = record { rises = risen };
     apart = λ p k e. elim (Contains-append_cases ps row p k) [ inl c ↦ h.rests.apart p c e | inr c ↦ a p c e ];
   }
 
-  -- pairs of the next block are behind those of the blocks before it
+  -- pairs of the next block are after those of the blocks before it
   below_same : (b : ℕ) → b ≤ next → count_ending_below (from_at ps) b (length ps) ≡ count_ending_below (from_at (ps ++ row)) b (length (ps ++ row))
   below_same b l =
       let old = passing_same (λ k. nat_lt (from_at ps k) b) (λ k. nat_lt (from_at (ps ++ row) k) b) (length ps) (λ k m. ap (λ (p : ℕ × ℕ). nat_lt p.0 b) (sym (old_at k m))) in
@@ -85,7 +88,7 @@ module _ (n next : ℕ) (ps row : List (ℕ × ℕ)) (firsts predecessors : List
 
   -- the lists as they were written
   pub pushed : (begun listed : List ℕ) (count : ℕ) → begun ≡ firsts ++ count ∷ [] → listed ≡ predecessors ++ map (λ p. p.1) row → count ≡ length listed → AreRows n (next + 1) (ps ++ row) begun listed
-  pushed begun listed count f p e = grind (arith, common_steps, length-append, length-map, rows_length, size, rests_more, listed_more, map-append, starts_more)
+  pushed begun listed count f p e = grind (arith, common_steps, length-append, length-map, rows_length, size, rests_more, most_more, listed_more, map-append, starts_more)
 
   pub pushed_told : (begun listed : List ℕ) (count : ℕ) → begun ≡ firsts ++ count ∷ [] → listed ≡ predecessors ++ map (λ p. p.1) row → count ≡ length listed → pairs_by begun listed ≡ ps ++ row
   pushed_told begun listed count f p e = rows_told n (next + 1) (ps ++ row) begun listed (pushed begun listed count f p e)

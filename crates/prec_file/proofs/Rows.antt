@@ -22,7 +22,7 @@ module _ (ps : List (ℕ × ℕ)) (r : IsRising ps) (n : ℕ) (firsts : List ℕ
       let none = passing_between (λ j. nat_lt (from_at ps j) (b + 1)) k (length ps) (omega arith) (λ j i m. let u = later ps r k l j i m in lt_false (from_at ps j) (b + 1) (omega arith)) in
       le_true (get_or firsts (b + 1) 0) k (omega (arith, at, none, passing_most (λ j. nat_lt (from_at ps j) (b + 1)) k))
 
-  -- the others begin behind it
+  -- the others begin after it
   not_begun : (b : ℕ) → from_at ps k ≤ b → b < n → begins b ≡ false
   unfolding begins
   not_begun b g i =

@@ -20,7 +20,7 @@ pub record IsWritable (n : ℕ) (ps : List (ℕ × ℕ)) : Type 0 where
 pub above_known : (n : ℕ) (ps : List (ℕ × ℕ)) (b : ℕ) → IsWritable n ps → All (λ p. p < n) (above_of ps b)
 above_known n ps b w k d l = grind (arith, common_steps, (above_at ps w.rising b k l), (get_or_default (above_of ps b) k 0 d l))
 
--- The words behind the block.
+-- The words after the block.
 abbrev pub words_at : List (ℕ × ℕ) → ℕ → List (List ℕ)
 words_at ps b = decimal (length (above_of ps b)) ∷ map decimal (above_of ps b)
 

@@ -154,19 +154,19 @@ pair_listed n ps (suc m) p w l h i =
 
 -- ---- the file
 
-writable : (v : RestsView) → IsRests v → AreNarrow v → IsWritable v.blocks v.pairs
-writable v r narrow = record { blocks = r.blocks; few = r.few; known = r.known; rising = r.rising; narrow = narrow }
+writable : (v : RestsView) → IsRests v → length v.pairs ≤ MOST_PAIRS → AreNarrow v → IsWritable v.blocks v.pairs
+writable v r few narrow = record { blocks = r.blocks; few = few; known = r.known; rising = r.rising; narrow = narrow }
 
 text_records : (v : RestsView) → IsWritable v.blocks v.pairs → numbered_lines 0 (lines_of (prec_text v)) ≡ before v.pairs v.blocks
 unfolding before
 text_records v w = ap (numbered_lines 0) (text_lines v.blocks v.pairs w)
 
 -- What is written is read back.
-pub reads_back : (v : RestsView) → IsRests v → AreNarrow v → ReadsBack v (prec_text v)
-reads_back v r narrow =
+pub reads_back : (v : RestsView) → IsRests v → length v.pairs ≤ MOST_PAIRS → AreNarrow v → ReadsBack v (prec_text v)
+reads_back v r few narrow =
     let n = v.blocks in
     let ps = v.pairs in
-    let w = writable v r narrow in
+    let w = writable v r few narrow in
     let all : pairs_of_text (prec_text v) ≡ pairs_of (before ps n) = ap pairs_of (text_records v w) in
     let same : ArePairsOf (pairs_of_text (prec_text v)) ps = record {
       rising = r.rising;

@@ -60,11 +60,11 @@ blocks_of lines = flat_map (λ l. blocks_of_fields (fields_of l.text)) lines
 abbrev pub pairs_of : List Line → List (ℕ × ℕ)
 pairs_of lines = flat_map (λ l. pairs_in (fields_of l.text)) lines
 
--- The fault of a line behind other lines.
+-- The fault of a line after other lines.
 abbrev pub fault_behind : ℕ → List Line → Line → Option PrecFault
 fault_behind n before l = line_fault n (has (blocks_of before)) (length (pairs_of before)) l
 
--- The fault of the first faulty line, if any, behind these lines.
+-- The fault of the first faulty line, if any, after these lines.
 abbrev pub first_fault : ℕ → List Line → List Line → Option PrecFault
 first_fault n before [] = None
 first_fault n before (l ∷ lines) = option_or (fault_behind n before l) (first_fault n (before ++ l ∷ []) lines)

@@ -9,7 +9,8 @@
 //!
 //! Promises upward:
 //!
-//! - A `Rests` and a `Predecessors` are exactly the set of the pairs that were listed, except those of a block with itself.
+//! - A `Rests` and a `Predecessors` are exactly the set of the pairs that were listed, except those of a block with
+//!   itself.
 //! - A text is refused exactly where it has a fault, with the first faulty line and the first of its faults.
 //! - What is written is read back as the same pairs.
 //!

@@ -16,7 +16,7 @@ pub enum PrecFault {
     UnknownBlock(u64),
     /// The block had a record before.
     Repeated(u64),
-    /// The second field isn't the number of the fields behind it.
+    /// The second field isn't the number of the fields after it.
     WrongCount(u64),
     /// More than 2^27 predecessors are listed up to here, repeats counted.
     TooMany(u64),

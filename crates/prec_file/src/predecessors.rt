@@ -18,8 +18,8 @@ use std::marker::Model;
 /// Pairs (b, p) of n blocks, in which b rests on p, as the predecessors of each block: each pair once, ordered by b and
 /// then by p.
 ///
-/// It takes about a third of the memory of a [`crate::Rests`], which also has the block of each pair and finds the pairs by
-/// predecessor.
+/// It takes about a third of the memory of a [`crate::Rests`], which also has the block of each pair and finds the
+/// pairs by predecessor.
 #[derive(Drop)]
 pub struct Predecessors {
     blocks: u32,
@@ -114,6 +114,7 @@ impl Predecessors {
     pub fn len(&self) -> u32
         ensures is { result ≡ self.now.blocks }
         ensures all { IsRests self.now }
+        ensures few { length self.now.pairs ≤ MOST_PAIRS }
     {
         self.blocks
     }

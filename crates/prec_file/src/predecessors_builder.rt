@@ -37,7 +37,7 @@ impl Model for PredecessorsBuilder {
         (pairs_by r.firsts.items r.predecessors.items) r.firsts.items r.predecessors.items };
 }
 
-// Puts the predecessors of pairs behind others, or nothing where there is no memory.
+// Puts the predecessors of pairs after others, or nothing where there is no memory.
 fn append(list: &mut Vec<u32>, pairs: &[(u32, u32)]) -> Result<(), AllocError>
     ensures added { OnOk result (list.new.items ≡ list.old.items ++ map (λ p. p.1) pairs.now) }
     ensures same { OnErr result (list.new.items ≡ list.old.items) }

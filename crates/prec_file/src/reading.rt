@@ -78,8 +78,8 @@ fn read_pairs(alloc: Global, text: &[u8], n: u32) -> Result<Vec<(u32, u32)>, Pre
     }
 }
 
-/// The pairs that a precedence file lists for n blocks, at most 2^24, as it lists them: those of [`read_prec`] before they are put in
-/// order.
+/// The pairs that a precedence file lists for n blocks, at most 2^24, as it lists them: those of [`read_prec`] before
+/// they are put in order.
 ///
 /// # Errors
 /// Those of [`read_prec`].
@@ -101,7 +101,8 @@ pub fn read_listed(alloc: Global, text: &[u8], n: u32) -> Result<ListedPairs, Pr
 ///
 /// # Errors
 /// That of the first faulty line, and of its faults the first in this order: `Text` for more than 65,536 bytes or fewer
-/// than two fields, `Number`, `UnknownBlock`, `Repeated`, `WrongCount`, `TooMany`. `NoMemory` where a growth was refused.
+/// than two fields, `Number`, `UnknownBlock`, `Repeated`, `WrongCount`, `TooMany`. `NoMemory` where a growth was
+/// refused.
 pub fn read_prec(alloc: Global, text: &[u8], n: u32) -> Result<Rests, PrecFault>
     requires { n ≤ MOST_BLOCKS }
     ensures { MatchResult result
@@ -118,8 +119,8 @@ pub fn read_prec(alloc: Global, text: &[u8], n: u32) -> Result<Rests, PrecFault>
     listed.into_rests(alloc).map_err(|_| PrecFault::NoMemory)
 }
 
-/// Reads the text to each block's predecessors, without the pairs and their index by predecessor. The bytes are freed before
-/// pairs are put in order.
+/// Reads the text to each block's predecessors, without the pairs and their index by predecessor. The bytes are freed
+/// before pairs are put in order.
 ///
 /// Where the blocks of the records rise, as in most files, the pairs are never held but as the result holds them.
 /// Otherwise the text is read again.

@@ -133,6 +133,7 @@ impl Rests {
     pub fn len(&self) -> u32
         ensures is { result ≡ self.now.blocks }
         ensures all { IsRests self.now }
+        ensures few { length self.now.pairs ≤ MOST_PAIRS }
     {
         self.predecessors.len()
     }

@@ -5,8 +5,8 @@ use Rattle.fixed_worth.specs.declared.limits.TheConstants.{MOST_BLOCKS}
 use Rattle.prec_file.specs.Rests.{has_pair}
 use Rattle.schedules.specs.Prelude.{Production}
 
--- What each block is worth in billionths, what each period weighs in millionths, and how many resources there are; row by row for each
--- resource what each block uses of it in millionths, and what each period has of it in whole units.
+-- What each block is worth in billionths, what each period weighs in millionths, and how many resources there are; row
+-- by row for each resource what each block uses of it in millionths, and what each period has of it in whole units.
 pub record FiguresView : Type 0 where
   pub worths : List ℤ
   pub weights : List ℕ

@@ -16,8 +16,8 @@ pub const MOST_RESOURCES: u32 = 8;
 /// The most that a period weighs, in millionths: as much as money of today.
 pub const MOST_WEIGHT: u64 = 1_000_000;
 
-/// The most that a block is worth or costs, in billionths. What the values of files and the prices of a model come to, at
-/// any factor, is below it.
+/// The most that a block is worth or costs, in billionths. What the values of files and the prices of a model come to,
+/// at any factor, is below it.
 pub const MOST_WORTH: i128 = 100_000_000_000_000_000_000_000;
 
 /// What blocks are worth and use, and what periods weigh and have.
@@ -93,9 +93,9 @@ fn are_complete(
 }
 
 impl Figures {
-    /// The figures of so many resources, row by row for each: none where there are too many blocks, periods or resources, a
-    /// row isn't of their number, a period weighs more than [`MOST_WEIGHT`], or a block is worth or costs more than
-    /// [`MOST_WORTH`].
+    /// The figures of so many resources, row by row for each: none where there are too many blocks, periods or
+    /// resources, a row isn't of their number, a period weighs more than [`MOST_WEIGHT`], or a block is worth or costs
+    /// more than [`MOST_WORTH`].
     pub fn new(
         worths: Vec<i128>,
         weights: Vec<u64>,

@@ -11,8 +11,8 @@ use std::cmp::Ordering;
 
 /// What the search needs of an amount.
 ///
-/// Nothing is claimed of sums and orders. They lead the search to a forest; the flow is found from the forest alone, in the
-/// net's own amounts, and a checker judges it.
+/// Nothing is claimed of sums and orders. They lead the search to a forest; the flow is found from the forest alone, in
+/// the net's own amounts, and a checker judges it.
 pub(crate) trait Amount: Copy {
     /// Nothing.
     fn zero() -> Self;

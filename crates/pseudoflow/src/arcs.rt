@@ -10,8 +10,8 @@ use prec_file::Rests;
 use std::alloc::Global;
 use std::marker::Model;
 
-/// What each block of a search rests on, by the numbers of the search: first what block 0 rests on, then what block 1 does,
-/// and so on. A block that has no number can't take anything, and is left out.
+/// What each block of a search rests on, by the numbers of the search: first what block 0 rests on, then what block 1
+/// does, and so on. A block that has no number can't take anything, and is left out.
 #[derive(Drop)]
 pub(crate) struct Arcs {
     blocks: u32,

@@ -75,8 +75,8 @@ fn list_tree<A: Amount>(
     Ok(())
 }
 
-/// The blocks of a forest, tree by tree, and each before those that hang under it. They are numbers of these blocks of the
-/// net.
+/// The blocks of a forest, tree by tree, and each before those that hang under it. They are numbers of these blocks of
+/// the net.
 ///
 /// # Errors
 /// `Unsettled` where the turns are used up; `NoMemory` where memory was refused; `Broken` never.
@@ -105,7 +105,8 @@ pub(crate) fn branches_of<A: Amount>(
     Ok(branches)
 }
 
-// The pair of the arc of a branch and its parent, which stands so many places behind where its tree begins, of n blocks.
+// The pair of the arc of a branch and its parent, which stands so many places after where its tree begins, of n
+// blocks.
 fn pair_of(branches: &[Branch], begin: usize, branch: Branch, n: u32) -> Option<(u32, u32)>
     ensures { IfSome result (IsKnown n) }
 {

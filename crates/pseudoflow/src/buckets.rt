@@ -21,7 +21,7 @@ const EMPTY: Ends = Ends {
 };
 
 /// For each label a bucket of strong roots, first in and first out. The forest has the link from each root to the one
-/// behind it.
+/// after it.
 #[derive(Drop)]
 pub(crate) struct Buckets {
     ends: Vec<Ends>,
@@ -42,7 +42,7 @@ impl Buckets {
         }
     }
 
-    /// Puts a root into the bucket of a label, behind the others.
+    /// Puts a root into the bucket of a label, after the others.
     ///
     /// # Errors
     /// `Broken` where there is no such label.

@@ -13,8 +13,8 @@ pub enum PseudoflowFault {
     Unsettled,
     /// A sum or a difference of amounts doesn't fit.
     TooLarge,
-    /// A guard inside the search failed: a label above the highest, a number that no block has, a tree arc that is no pair
-    /// of the net. This is a mistake of the crate, and no net is known for which it comes.
+    /// A guard inside the search failed: a label above the highest, a number that no block has, a tree arc that is no
+    /// pair of the net. This is a mistake of the crate, and no net is known for which it comes.
     Broken,
     /// Memory was refused.
     NoMemory,

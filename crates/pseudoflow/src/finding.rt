@@ -10,8 +10,8 @@ use crate::labels::Labels;
 use crate::leading::{Look, WaysUp};
 use crate::search::Search;
 
-/// An arc over which a strong tree is merged: a block of the tree, and one that it rests on whose label is one lower than
-/// that of the tree's root.
+/// An arc over which a strong tree is merged: a block of the tree, and one that it rests on whose label is one lower
+/// than that of the tree's root.
 #[derive(Clone, Copy)]
 pub(crate) struct MergerArc {
     pub(crate) strong: u32,
@@ -79,8 +79,8 @@ fn check_children<A: Amount>(
 }
 
 impl<A: Amount, W: WaysUp> Search<A, W> {
-    /// Merges a strong tree, and pushes its excess up. Where no arc is found over which it can be merged, it waits again:
-    /// its root has got a higher label, as each block of the root's label that had no child of that label.
+    /// Merges a strong tree, and pushes its excess up. Where no arc is found over which it can be merged, it waits
+    /// again: its root has got a higher label, as each block of the root's label that had no child of that label.
     pub(crate) fn process_root(
         &mut self,
         root: u32,

@@ -31,7 +31,7 @@ fn lift_positive_blocks<G: OrderedGroup>(
     Ok(())
 }
 
-// Gives b a label, and puts it behind the other blocks that were found.
+// Gives b a label, and puts it after the other blocks that were found.
 fn find(
     labels: &mut Labels,
     found: &mut Vec<Link>,
@@ -133,12 +133,12 @@ fn find_all(
     Ok(())
 }
 
-/// The labels before the search: for each block, how many pairs lead from it, at the fewest, to one that is of no positive
-/// worth. Where none leads to such a block, it is lifted: it is in the pit, with all that it rests on.
+/// The labels before the search: for each block, how many pairs lead from it, at the fewest, to one that is of no
+/// positive worth. Where none leads to such a block, it is lifted: it is in the pit, with all that it rests on.
 ///
-/// Labels of 1 for all blocks of positive worth would be right too, but a tree climbs from a lower label to a higher one by
-/// walks over all its blocks: in a chain of which the lower half is ore, these grow with the square of the blocks. Breadth
-/// first, against the pairs, in time and memory linear in the blocks and pairs.
+/// Labels of 1 for all blocks of positive worth would be right too, but a tree climbs from a lower label to a higher
+/// one by walks over all its blocks: in a chain of which the lower half is ore, these grow with the square of the
+/// blocks. Breadth first, against the pairs, in time and memory linear in the blocks and pairs.
 ///
 /// # Errors
 /// `Unsettled` where the turns are used up; `NoMemory` where memory was refused; `Broken` never.

@@ -27,8 +27,9 @@ impl Direction {
     }
 }
 
-// What the search keeps of a block: what it has left, the links of its tree, and where two searches at it stand. What a push
-// looks at stands together, first, and then what a walk looks at, since a record seldom begins where a line of the memory does.
+// What the search keeps of a block: what it has left, the links of its tree, and where two searches at it stand. What a
+// push looks at stands together, first, and then what a walk looks at, since a record seldom begins where a line of the
+// memory does.
 #[derive(Clone, Copy)]
 struct Node<A: Amount> {
     // a deficit where it is negative
@@ -47,7 +48,7 @@ struct Node<A: Amount> {
     first_arc: u32,
     end_of_arcs: u32,
     current_arc: u32,
-    // the root behind it in the bucket of its label
+    // the root after it in the bucket of its label
     next_root: Link,
 }
 
@@ -86,8 +87,8 @@ impl<A: Amount> Model for Forest<A> {
 }
 
 impl<A: Amount> Forest<A> {
-    /// Each block a tree of its own. The arcs of the source and of the sink are saturated: what a block has left is what it is
-    /// worth.
+    /// Each block a tree of its own. The arcs of the source and of the sink are saturated: what a block has left is
+    /// what it is worth.
     pub(crate) fn new<W: WaysUp>(
         alloc: Global,
         worths: &[A],
@@ -164,7 +165,7 @@ impl<A: Amount> Forest<A> {
         self.nodes[b as usize].first_child.block(self.nodes.len())
     }
 
-    /// The child behind b of the same parent.
+    /// The child after b of the same parent.
     pub(crate) fn next_sibling(&self, b: u32) -> Option<u32>
         requires { b < self.now }
         ensures { IfSome result (λ c. c < self.now) }
@@ -245,8 +246,8 @@ impl<A: Amount> Forest<A> {
         self.nodes[b as usize].unvisited = next;
     }
 
-    /// The pairs of b that are to be looked at: from its current arc on, the first that was not passed since it got its label,
-    /// up to the end of its pairs.
+    /// The pairs of b that are to be looked at: from its current arc on, the first that was not passed since it got its
+    /// label, up to the end of its pairs.
     pub(crate) fn arcs_left(&self, b: u32) -> (u32, u32)
         requires { b < self.now }
     {
@@ -271,14 +272,14 @@ impl<A: Amount> Forest<A> {
         node.current_arc = node.first_arc;
     }
 
-    /// The link from b to the root behind it in its bucket.
+    /// The link from b to the root after it in its bucket.
     pub(crate) fn next_root(&self, b: u32) -> Link
         requires { b < self.now }
     {
         self.nodes[b as usize].next_root
     }
 
-    /// Sets the link from b to the root behind it in its bucket.
+    /// Sets the link from b to the root after it in its bucket.
     pub(crate) fn set_next_root(&mut self, b: u32, link: Link)
         requires { b < self.old }
         ensures { self.new ≡ self.old }

@@ -15,8 +15,8 @@ pub struct Look {
     pub label: u32,
 }
 
-/// What each block of a search rests on, by the numbers of the search. The ways of a block have numbers of their own, and a
-/// way may lead nowhere.
+/// What each block of a search rests on, by the numbers of the search. The ways of a block have numbers of their own,
+/// and a way may lead nowhere.
 pub trait WaysUp: Drop {
     // how many blocks there are
     ghost count: { Self → ℕ };

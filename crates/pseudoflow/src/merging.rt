@@ -9,8 +9,8 @@ use crate::finding::MergerArc;
 use crate::forest::{Direction, Forest};
 
 impl<A: Amount> Forest<A> {
-    /// Hangs the strong tree of a merger arc under its weak block. The tree is turned over: each arc from the strong block
-    /// up to the old root keeps what it carries, and its two blocks change places.
+    /// Hangs the strong tree of a merger arc under its weak block. The tree is turned over: each arc from the strong
+    /// block up to the old root keeps what it carries, and its two blocks change places.
     pub(crate) fn merge(
         &mut self,
         arc: MergerArc,

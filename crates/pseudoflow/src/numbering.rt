@@ -10,11 +10,11 @@ use prec_file::Rests;
 use std::alloc::{AllocError, Global};
 use std::marker::Model;
 
-/// The blocks among which something can flow: those of positive worth that aren't lifted, and the blocks that they rest on,
-/// directly or by others, that aren't either.
+/// The blocks among which something can flow: those of positive worth that aren't lifted, and the blocks that they rest
+/// on, directly or by others, that aren't either.
 ///
-/// They are numbered depth first. So what a tree's walk looks at stands close together, whichever numbers the blocks have in
-/// the model.
+/// They are numbered depth first. So what a tree's walk looks at stands close together, whichever numbers the blocks
+/// have in the model.
 #[derive(Drop)]
 pub(crate) struct Numbering {
     /// The blocks in the order of their numbers.

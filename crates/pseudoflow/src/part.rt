@@ -79,7 +79,8 @@ fn labels_by_number(
 }
 
 impl<W: WaysUp> Part<W> {
-    /// The part of these blocks of a net, which rest on one another in this way and have these labels before the search.
+    /// The part of these blocks of a net, which rest on one another in this way and have these labels before the
+    /// search.
     pub fn new(blocks: Vec<Link>, above: W, labels: Labels) -> Part<W>
         requires above { W.count above ≡ length blocks.items }
         requires labels { labels ≡ length blocks.items }

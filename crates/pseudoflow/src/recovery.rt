@@ -72,8 +72,8 @@ impl<'a, G: OrderedGroup> Draft<'a, G> {
         })
     }
 
-    // Sets both arcs of the block that brings an imbalance, and takes the imbalance off one of them, as far as it has as
-    // much: off its arc from the source in a strong tree, else off its arc to the sink. Returns what is left of it.
+    // Sets both arcs of the block that brings an imbalance, and takes the imbalance off one of them, as far as it has
+    // as much: off its arc from the source in a strong tree, else off its arc to the sink. Returns what is left of it.
     fn cancel_at_end(&mut self, b: u32, is_strong: bool, imbalance: G) -> Result<G, PseudoflowFault>
         requires { b < length self.old.worths }
         ensures { self.new ≡ self.old }
@@ -193,8 +193,8 @@ fn cancel_at_arc<G: OrderedGroup>(
     Ok(taken)
 }
 
-// Takes the imbalance of the root of a tree off the arcs that bring it, branch by branch. The amounts are the sums of the
-// branches; of those that were passed they are what is left of the imbalance.
+// Takes the imbalance of the root of a tree off the arcs that bring it, branch by branch. The amounts are the sums of
+// the branches; of those that were passed they are what is left of the imbalance.
 fn cancel_in_tree<G: OrderedGroup>(
     draft: &mut Draft<'_, G>,
     tree: &[Branch],
@@ -231,10 +231,10 @@ fn ends_tree(branches: &[Branch], place: usize) -> bool
 
 /// The flow of a forest in which no tree is strong but those from which no pair leads to another.
 ///
-/// All arcs of the source and the sink are saturated at first, and what an arc of the forest carries up is what the blocks
-/// under it are worth. What a strong root has left goes back to the source by the arcs that brought it, and what a weak root
-/// lacks is taken off what goes to the sink. Between the other blocks of the net nothing flows. Beside the flow it takes
-/// memory for the largest tree alone.
+/// All arcs of the source and the sink are saturated at first, and what an arc of the forest carries up is what the
+/// blocks under it are worth. What a strong root has left goes back to the source by the arcs that brought it, and what
+/// a weak root lacks is taken off what goes to the sink. Between the other blocks of the net nothing flows. Beside the
+/// flow it takes memory for the largest tree alone.
 pub fn flow_of_forest<G: OrderedGroup>(
     alloc: Global,
     net: &Net<G>,

@@ -2,8 +2,8 @@
 
 /// What a search calls from time to time to show how far it is. It can't change the search.
 pub trait Progress {
-    /// Called each time that 65,536 turns or more have gone by, between the turns of one strong tree and those of the next,
-    /// and once at the end of the search.
+    /// Called each time that 65,536 turns or more have gone by, between the turns of one strong tree and those of the
+    /// next, and once at the end of the search.
     ///
     /// `settled` is how many of the `blocks` are known to be inside the pit or outside it. While the search goes on
     /// those are the blocks of the trees that were lifted: no pair leads from them to a block that could take their

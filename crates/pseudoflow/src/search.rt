@@ -16,8 +16,8 @@ use std::marker::Model;
 // How many turns there are from one report to the next: a millisecond or less.
 const STRIDE: u64 = 1 << 16;
 
-/// A search: a pseudoflow whose arcs that carry something form a forest, and the labels that guide it. Its blocks go by the
-/// numbers of a part of the net.
+/// A search: a pseudoflow whose arcs that carry something form a forest, and the labels that guide it. Its blocks go by
+/// the numbers of a part of the net.
 #[derive(Drop)]
 pub(crate) struct Search<A: Amount, W: WaysUp> {
     pub(crate) above: W,
@@ -38,8 +38,8 @@ impl<A: Amount, W: WaysUp> Model for Search<A, W> {
     ghost invariant = { λ s. (W.count s.above ≡ s.forest) × (s.labels ≡ s.forest) };
 }
 
-// Puts the blocks of positive worth, of which each is a tree of its own, into the buckets of their labels: the highest of
-// these labels, and 0 where there are none.
+// Puts the blocks of positive worth, of which each is a tree of its own, into the buckets of their labels: the highest
+// of these labels, and 0 where there are none.
 fn add_strong_blocks<A: Amount>(
     labels: &Labels,
     n: u32,
@@ -95,8 +95,8 @@ impl<A: Amount, W: WaysUp> Search<A, W> {
         self.buckets.push(&mut self.forest, label, root)
     }
 
-    /// Merges or lifts strong trees, those of the highest label first, until there is none. So many of the net's blocks were
-    /// lifted before.
+    /// Merges or lifts strong trees, those of the highest label first, until there is none. So many of the net's blocks
+    /// were lifted before.
     pub(crate) fn run<P: Progress>(
         &mut self,
         lifted: u32,

@@ -75,11 +75,11 @@ fn lifted_blocks(
     Ok(pit)
 }
 
-/// Grows the forest of a part of a mine of so many blocks, whose blocks are worth so many billionths each, and finds the pit
-/// in it.
+/// Grows the forest of a part of a mine of so many blocks, whose blocks are worth so many billionths each, and finds
+/// the pit in it.
 ///
-/// Nothing is promised of either: a checker judges what is made of them. [`flow_of_forest`](crate::flow_of_forest) makes the
-/// flow.
+/// Nothing is promised of either: a checker judges what is made of them. [`flow_of_forest`](crate::flow_of_forest)
+/// makes the flow.
 ///
 /// # Errors
 /// Those of [`solve`].
@@ -101,7 +101,8 @@ pub fn grow<W: WaysUp, P: Progress>(
     searched(alloc, part, &units, blocks, budget, progress)
 }
 
-// The forest that a search of a part of the net leaves: over units, of 64 bits where these do, or else over the net's amounts.
+// The forest that a search of a part of the net leaves: over units, of 64 bits where these do, or else over the net's
+// amounts.
 fn forest_of<G: OrderedGroup, P: Progress>(
     alloc: Global,
     net: &Net<G>,
@@ -119,16 +120,16 @@ fn forest_of<G: OrderedGroup, P: Progress>(
 
 /// A flow of the net, by highest-label pseudoflow (Hochbaum 2008).
 ///
-/// It has an amount for each block and each pair of the net. Nothing else is promised of it: that it is a greatest flow,
-/// and that the blocks which the source reaches in what it leaves are the pit, is for a checker to say.
+/// It has an amount for each block and each pair of the net. Nothing else is promised of it: that it is a greatest
+/// flow, and that the blocks which the source reaches in what it leaves are the pit, is for a checker to say.
 ///
-/// At most `turns` turns are taken, of which each is one look at a block, at a pair or at a label. Models of mines take 1 to
-/// 75 for each block and pair. A chain in which each block rests on the next, the positive ones below, takes a number that
-/// grows with the square of the blocks.
+/// At most `turns` turns are taken, of which each is one look at a block, at a pair or at a label. Models of mines take
+/// 1 to 75 for each block and pair. A chain in which each block rests on the next, the positive ones below, takes a
+/// number that grows with the square of the blocks.
 ///
 /// # Errors
-/// `Unsettled` only where all turns are used up; `TooLarge` where a sum or a difference of amounts doesn't fit; `NoMemory`
-/// where memory was refused; `Broken` where the search made a mistake, which no net is known to bring about.
+/// `Unsettled` only where all turns are used up; `TooLarge` where a sum or a difference of amounts doesn't fit;
+/// `NoMemory` where memory was refused; `Broken` where the search made a mistake, which no net is known to bring about.
 pub fn solve<G: OrderedGroup, P: Progress>(
     alloc: Global,
     net: &Net<G>,

@@ -49,11 +49,11 @@ pub(crate) fn small_worths<G: OrderedGroup>(
     Ok(Some(worths))
 }
 
-/// How worths become units. With d the greatest common divisor of all worths and n the number of blocks, a worth w becomes
-/// (w / d) x (n + 1) - 1.
+/// How worths become units. With d the greatest common divisor of all worths and n the number of blocks, a worth w
+/// becomes (w / d) x (n + 1) - 1.
 ///
-/// So of two sets of blocks the one that is worth less has the lower sum of units, and of two that are worth the same the one
-/// with more blocks.
+/// So of two sets of blocks the one that is worth less has the lower sum of units, and of two that are worth the same
+/// the one with more blocks.
 #[derive(Clone, Copy)]
 pub(crate) struct Scale {
     divisor: i64,
@@ -87,7 +87,8 @@ impl Scale {
 
     /// The worths in units, where each of these fits 64 bits, and the sum of the positive ones too.
     ///
-    /// No excess and no flow of a search is more than that sum, and no deficit grows, so that no number of it overflows.
+    /// No excess and no flow of a search is more than that sum, and no deficit grows, so that no number of it
+    /// overflows.
     ///
     /// # Errors
     /// `NoMemory` where memory was refused.

@@ -18,8 +18,8 @@ pub record TellsFlow (texts : MineTexts) (name : Group) (net : NetView) (steps :
   pub is : outcome ≡ Quiet steps judgement
   pub judged : IsFlowJudged texts name net flow judgement
 
--- The turns of a board made these events and led to a quiet state, which has this flow. What comes of a text that is read back as the
--- events, over the same net, is that all of them are steps, and that this flow is judged.
+-- The turns of a board made these events and led to a quiet state, which has this flow. What comes of a text that is
+-- read back as the events, over the same net, is that all of them are steps, and that this flow is judged.
 abbrev pub HistoriesAreReplayed : Type 0
 HistoriesAreReplayed = (texts : MineTexts) (name : Group) (net : NetView) (events : List Event) (state : State) (flow : FlowView) (trace : List ℕ) (outcome : Outcome)
     → AreTurnsTo net events state → IsQuiet net state → IsFlowOf net state flow → IsReadBack trace events

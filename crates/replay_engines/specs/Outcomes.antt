@@ -19,8 +19,8 @@ use Rattle.replay_engines.specs.declared.outcome.Outcome.TheVariants.{Quiet, Ope
 
 -- ---- what a check says of a flow
 
--- The pit is that of the blocks which the source reaches in what the flow leaves of the net. The flow proves it; it has so
--- many blocks and is worth so much.
+-- The pit is that of the blocks which the source reaches in what the flow leaves of the net. The flow proves it; it has
+-- so many blocks and is worth so much.
 pub record IsFlowAccepted (texts : MineTexts) (name : Group) (net : NetView) (flow : FlowView) (blocks : ℕ) (nanos : ℤ) : Type 0 where
   pub pit : List ℕ
   pub reached : IsReached net flow (holds_of pit)
@@ -57,7 +57,8 @@ pub record EndsOpen (net : NetView) (events : List Event) : Type 0 where
   pub run : Run net (opening net) events state
   pub unquiet : ¬ (IsQuiet net state)
 
--- all events are steps, and what a check says of the flow; all are steps; or the first at this place, counted from 1, is refused
+-- all events are steps, and what a check says of the flow; all are steps; or the first at this place, counted from 1,
+-- is refused
 abbrev pub IsOutcome : MineTexts → Group → NetView → List Event → Outcome → Type 0
 IsOutcome texts name net events (Quiet steps judgement) = (steps ≡ length events) × ((flow : FlowView) × EndsQuiet net events flow × IsFlowJudged texts name net flow judgement)
 IsOutcome texts name net events (Open steps) = (steps ≡ length events) × EndsOpen net events

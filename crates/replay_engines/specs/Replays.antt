@@ -32,13 +32,15 @@ NothingComes texts name (engine.Model fault) = (n : ℕ) × DenoteMine texts n �
 NothingComes texts name engine.Memory = Unit {0}
 NothingComes texts name _ = ⊥
 
--- Why the engine answers a fault: it is one of the texts; or, where they are read, one of the trace or of the mine's net.
+-- Why the engine answers a fault: it is one of the texts; or, where they are read, one of the trace or of the mine's
+-- net.
 abbrev pub ReplayFails : MineTexts → Group → List ℕ → EngineFault → Type 0
 ReplayFails texts name trace (engine.Trace p) = (n : ℕ) × DenoteMine texts n × TraceFails trace p
 ReplayFails texts name trace (engine.Model fault) = IsTrace trace × NothingComes texts name (engine.Model fault)
 ReplayFails texts name trace fault = MineFails texts fault
 
--- what is in the writer at a fault: what was there before, unless a device failed; then perhaps a prefix of an answer too
+-- what is in the writer at a fault: what was there before, unless a device failed; then perhaps a prefix of an answer
+-- too
 abbrev pub WritesReplayPrefix : MineTexts → Group → List ℕ → Option (List ℕ) → Option (List ℕ) → Type 0
 WritesReplayPrefix texts name trace old new = Keeps old new ⊎ ((outcome : Outcome) × IsReplay texts name trace outcome × ReceivedPrefix old new (outcome_text outcome))
 

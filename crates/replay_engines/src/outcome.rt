@@ -51,7 +51,7 @@ impl Outcome {
     }
 }
 
-/// Writes the lines of an outcome: `REPLAYED`, the number of steps and `QUIET`, with the line of `check` behind it;
+/// Writes the lines of an outcome: `REPLAYED`, the number of steps and `QUIET`, with the line of `check` after it;
 /// `REPLAYED`, the number of steps and `OPEN`; or `REFUSED`, the place and the refusal.
 pub fn write_outcome<W: CountedWrite>(
     alloc: Global,

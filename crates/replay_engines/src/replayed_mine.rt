@@ -23,8 +23,8 @@ use std::alloc::{AllocError, Global};
 /// Makes the steps over a mine that was read, and writes what comes of them.
 ///
 /// # Errors
-/// `Model` where an amount of the mine's net doesn't fit, `Memory` where memory is refused: then nothing was written. `Device`
-/// where a write fails: the writer then has a prefix.
+/// `Model` where an amount of the mine's net doesn't fit, `Memory` where memory is refused: then nothing was written.
+/// `Device` where a write fails: the writer then has a prefix.
 pub fn replay_mine<W: CountedWrite>(
     alloc: Global,
     mine: MineToSolve,

@@ -14,8 +14,8 @@ use trace_file::read_trace;
 /// The steps of a trace. The bytes of its text are given back here.
 ///
 /// # Errors
-/// `Trace` for a text that is too long, or the fault of the first faulty line. `Memory` where memory is refused, `Device`
-/// where a read fails.
+/// `Trace` for a text that is too long, or the fault of the first faulty line. `Memory` where memory is refused,
+/// `Device` where a read fails.
 pub fn events_from<E: CountedRead>(alloc: Global, from: &mut E) -> Result<Vec<Event>, EngineFault>
     requires { E.failed from.old < 2 ^ 64 - 1 }
     ensures read { IfSome (E.remaining from.old) (λ text. MatchResult result

@@ -6,7 +6,8 @@ use Rattle.blocks_file.specs.declared.blocks_fault.BlocksFault.TheVariants.{Numb
 use Rattle.blocks_file.specs.Records.{head_reads, is_bad, are_there, shape_fault, block_fault, record_fault, has_record, first_fault, early_fault, record_count_of, fault_of}
 use Rattle.upit_file.proofs.Names.{none_parts}
 
--- columns are as good as others, of which they are some: none of them is bad, and all are there, where so it is of the others
+-- columns are as good as others, of which they are some: none of them is bad, and all are there, where so it is of the
+-- others
 pub record AreSomeOf (fewer chosen : List ℕ) : Type 0 where
   pub good : (columns : List (List ℕ)) → list_any (is_bad columns) chosen ≡ false → list_any (is_bad columns) fewer ≡ false
   pub there : (count : ℕ) → are_there chosen count ≡ true → are_there fewer count ≡ true

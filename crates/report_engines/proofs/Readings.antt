@@ -242,7 +242,8 @@ module _ {D : Type 0} (o q : Option (List ℕ)) (d : Option D) (remaining : D �
         kind_told d remaining (λ k. IsSaid k s v columns factors factor) (λ p. ReportMineFails s b p e) g (λ p i. model_fails p s b v columns factors factor i e f)))
 
     module _ (m : BlocksView) (prices : PricesView) (positive : NoRevenueNegative prices) (priced : IsPricedModel columns.prices m prices) (b : IfSome q (λ t. ReadsBlocks (report_list columns) t m)) where
-      -- what follows where the readers tell their bytes from what was read of the settings, of the blocks and of who rests on whom
+      -- what follows where the readers tell their bytes from what was read of the settings, of the blocks and of who
+      -- rests on whom
       told : (P : PrecedenceBy → Type 0) (Q : List ℕ → List ℕ → PrecedenceBy → Type 0) → IfSome (precedence_in d remaining) P
           → ((s t : List ℕ) (p : PrecedenceBy) → IsSaid (is_sloped p) s v columns factors factor → ReadsBlocks (report_list columns) t m → P p → Q s t p) → ForTold Q
       told P Q h f = under o (λ s. IsSaid (is_without d) s v columns factors factor) (λ s. IfSome q (λ t. IfSome (precedence_in d remaining) (λ p. Q s t p))) a (λ s g.

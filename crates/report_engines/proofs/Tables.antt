@@ -26,7 +26,7 @@ use Rattle.mine_inputs.proofs.Priced.{price_places, priced_at}
 use Rattle.report_engines.specs.Prelude.{ReportBlocksRead, report_blocks, IsReport, AnswersReport, ReportFails, IsReportRead, blocks_with}
 use Rattle.report_engines.proofs.SameBlocks.{AreAlike, table_same, text_same}
 
--- the tonnes stand behind the columns of prices
+-- the tonnes stand after the columns of prices
 tonnes_chosen : (priced_by : PriceColumns) (tonnes : ℕ) (others : List ℕ) → get_or (column_list priced_by ++ (tonnes ∷ others)) (place_beside priced_by) 0 ≡ tonnes
 tonnes_chosen priced_by tonnes others = ap (λ i. get_or (column_list priced_by ++ (tonnes ∷ others)) i 0) (sym (price_places priced_by)) ∙ get_or-append_seam (column_list priced_by) tonnes others 0
 

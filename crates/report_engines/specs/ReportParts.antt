@@ -17,15 +17,15 @@ use Rattle.shell_engines.specs.SeriesTexts.{factors_said, report_factor, IsSerie
 use Rattle.report_engines.specs.declared.report_inputs.ReportColumns.{ReportColumns}
 use Rattle.report_engines.specs.ReportTexts.{report_keys, ReportKeysKnown, report_columns}
 
--- The prices, the pairs, the factors and the factor of the report that were read, the blocks with their places and columns, and the
--- columns of the prices are those of the texts.
+-- The prices, the pairs, the factors and the factor of the report that were read, the blocks with their places and
+-- columns, and the columns of the prices are those of the texts.
 pub record IsReportRead (settings blocks : List ℕ) (precedence : PrecedenceBy) (prices : PricesView) (rests : RestsView) (factors : List ℕ) (model : BlocksView) (priced_by : PriceColumns) (factor : ℕ) : Type 0 where
   pub series : IsSeriesRead settings blocks precedence prices rests factors factor
   pub keys : ReportKeysKnown (is_sloped precedence) settings
   pub blocks_are : ReadsBlocks (report_columns (settings_of settings)) blocks model
   pub columns_are : priced_by ≡ columns_said (settings_of settings)
 
--- the blocks of a model in the shells of a series, with their tonnes behind the columns of prices, and these worths
+-- the blocks of a model in the shells of a series, with their tonnes after the columns of prices, and these worths
 abbrev pub blocks_with : BlocksView → PriceColumns → SeriesView → List ℤ → ReportedBlocks
 blocks_with m priced_by series worths = reported_blocks m series (place_beside priced_by) worths
 
@@ -89,7 +89,7 @@ SaidFails sloped settings engine.Memory = Unit {0}
 SaidFails sloped settings engine.Device = Unit {0}
 SaidFails sloped settings _ = ⊥
 
--- the blocks with the column of regions alone, which stands behind those of prices and of tonnes
+-- the blocks with the column of regions alone, which stands after those of prices and of tonnes
 abbrev pub regions_among : SettingsView → PriceColumns → BlocksView → BlocksView
 regions_among said priced_by m = narrowed (column_after (place_beside priced_by + 1) said.region) m
 

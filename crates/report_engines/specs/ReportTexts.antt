@@ -1,5 +1,5 @@
--- The texts of a mine that is reported: settings that name its prices, its tonnes and the factors, blocks, and what says which block
--- rests on which.
+-- The texts of a mine that is reported: settings that name its prices, its tonnes and the factors, blocks, and what
+-- says which block rests on which.
 use Rattle.std.specs.Prelude.{◌≡◌, ℕ, Bool, List, [], ◌∷◌, ◌++◌, None, unwrap_or}
 use Rattle.std.specs.List.{find}
 use Rattle.blocks_file.specs.Records as blocks
@@ -21,7 +21,8 @@ report_keys sloped s = keys_by (is_said s Ways) (names_mill s) (others_by sloped
 abbrev pub ReportKeysKnown : Bool → List ℕ → Type 0
 ReportKeysKnown sloped settings = KeysSaid (report_keys sloped) (unused_by sloped) settings
 
--- the columns of the blocks that settings name: those of prices, then tonnes, and last that of regions where there is one
+-- the columns of the blocks that settings name: those of prices, then tonnes, and last that of regions where there is
+-- one
 abbrev pub report_columns : SettingsView → List ℕ
 report_columns s = price_columns s ++ (unwrap_or s.tonnes 0 ∷ region_columns s)
 

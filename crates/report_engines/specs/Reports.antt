@@ -13,8 +13,8 @@ use Rattle.shell_engines.specs.Prelude.{factors_said, FailsBy, Ends, mine_at_fac
 use Rattle.report_engines.specs.ReportTexts.{ReportBlocksRead, report_blocks, ReportMineFails}
 
 -- The texts denote a mine at each factor, the pits at the factors of the settings are the best ones, each of them lies
--- within the next, and this text is the bench table of the blocks in their shells; where ways are wanted, with the tonnes that go
--- each way at the factor of the report.
+-- within the next, and this text is the bench table of the blocks in their shells; where ways are wanted, with the
+-- tonnes that go each way at the factor of the report.
 pub record IsReport (ways : Bool) (settings blocks : List ℕ) (precedence : PrecedenceBy) (text : List ℕ) : Type 0 where
   pub size : ℕ
   pub mine : (factor : ℕ) → DenoteMine (texts_by settings blocks precedence factor) size

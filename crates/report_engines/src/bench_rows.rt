@@ -24,8 +24,8 @@ pub struct ShellBlocks<'a> {
     pub series: &'a Series,
 }
 
-/// The rows of the bench table of blocks in shells, where these are the amounts of the blocks that its worths add up. At most
-/// 2^24 blocks have tonnes and amounts that are small beside 128 bits, so that no sum overflows.
+/// The rows of the bench table of blocks in shells, where these are the amounts of the blocks that its worths add up.
+/// At most 2^24 blocks have tonnes and amounts that are small beside 128 bits, so that no sum overflows.
 ///
 /// # Errors
 /// Memory was refused.

@@ -1,5 +1,5 @@
-//! Reads settings and blocks, and predecessors where a text of their own lists them: gives a mine with prices and tonnes,
-//! the factors of its shells and that of the report, or the first fault of an input.
+//! Reads settings and blocks, and predecessors where a text of their own lists them: gives a mine with prices and
+//! tonnes, the factors of its shells and that of the report, or the first fault of an input.
 
 ghost use Rattle.std.specs.Prelude.{◌≡◌, ◌≤◌, ◌+◌, ◌-◌, ◌^◌, ◌<◌, ◌↔◌, [], None, length, unwrap_or, IfOk, IfSome, MatchResult, IsErrOf};
 ghost use Rattle.settings_file.specs.Settings.{first_missing};

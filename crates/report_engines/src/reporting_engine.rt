@@ -27,9 +27,9 @@ use workers::Gate;
 /// Reports the shells of the mine of settings, blocks and a precedence: the bench table, as comma-separated values with
 /// the line `z,shell,blocks,tonnes,worth` first. A block's shell is the lowest factor of the settings whose best pit
 /// holds it, its tonnes are those of its record, and its worth is that at the factor of the report: the settings' key
-/// `report`, or else the last of the factors. Where ways are wanted, the tonnes that go each way at that factor stand behind
-/// these numbers, `tonnes1`, `tonnes2` and so on. Where the table of blocks is asked for, it is written first: a line for
-/// each block with its shell, and with its way where ways are wanted.
+/// `report`, or else the last of the factors. Where ways are wanted, the tonnes that go each way at that factor stand
+/// after these numbers, `tonnes1`, `tonnes2` and so on. Where the table of blocks is asked for, it is written first: a
+/// line for each block with its shell, and with its way where ways are wanted.
 ///
 /// `Done` where the table was written: each pit was checked with a flow that proves it, and added to a series, before
 /// anything was written. `No` where at a factor no pit was proved: the line `UNSETTLED factor` where the run needs more
@@ -39,9 +39,9 @@ use workers::Gate;
 /// # Errors
 /// In this order:
 ///
-/// - `Settings` for a fault of this text, or for the first missing key of `revenue`, `cost`, `tonnes`, `factors`, or with
-///   a mill of `revenue`, `tonnes`, `factors`, `processing`, `mining`, or with ways of `tonnes`, `factors`, `mining`; of
-///   `slopes` too where no precedence is read;
+/// - `Settings` for a fault of this text, or for the first missing key of `revenue`, `cost`, `tonnes`, `factors`, or
+///   with a mill of `revenue`, `tonnes`, `factors`, `processing`, `mining`, or with ways of `tonnes`, `factors`,
+///   `mining`; of `slopes` too where no precedence is read;
 /// - `Blocks`; `Prices` for a negative revenue; `Prec`;
 /// - `Model` where an amount of the mine's net doesn't fit at one of the factors.
 ///

@@ -147,8 +147,8 @@ fn text_with_ways(
     Ok(text)
 }
 
-/// The text of the bench table of blocks in shells, with the worths of the blocks at a factor; and where ways are wanted,
-/// with the tonnes that go each way at that factor.
+/// The text of the bench table of blocks in shells, with the worths of the blocks at a factor; and where ways are
+/// wanted, with the tonnes that go each way at that factor.
 ///
 /// # Errors
 /// Memory was refused.

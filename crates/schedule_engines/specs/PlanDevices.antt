@@ -1,4 +1,5 @@
--- The devices of periods, of what blocks use, and of a schedule: the texts that they tell, and the failures that they count.
+-- The devices of periods, of what blocks use, and of a schedule: the texts that they tell, and the failures that they
+-- count.
 use Rattle.std.specs.Prelude.{ℕ, ◌+◌, ◌-◌, ◌^◌, ◌<◌, List, Option, IfSome, length}
 use Rattle.periods_file.specs.Periods.{periods_view}
 use Rattle.schedule_engines.specs.declared.schedule_inputs.ScheduleInputs.{ScheduleInputs}

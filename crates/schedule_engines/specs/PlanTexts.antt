@@ -21,8 +21,9 @@ ReadsPeriodsText text p = IsWithinLimit text × ReadsPeriods text (Ok p)
 abbrev pub ReadsScheduleText : ℕ → ℕ → List ℕ → List ℕ → Type 0
 ReadsScheduleText n periods text listed = IsWithinLimit text × (schedule.fault_of n periods text ≡ None) × schedule.ArePeriods n periods text listed
 
--- The text isn't too long, has the columns of resources and of blocks that wait without a fault, and is of n blocks; these are the numbers
--- of resources, column by column, none of which is negative, and these are the pairs of blocks that wait.
+-- The text isn't too long, has the columns of resources and of blocks that wait without a fault, and is of n blocks;
+-- these are the numbers of resources, column by column, none of which is negative, and these are the pairs of blocks
+-- that wait.
 pub record ReadsUses (n : ℕ) (columns waits text uses : List ℕ) (lags : RestsView) : Type 0 where
   pub within : IsWithinLimit text
   pub read : blocks.fault_of (columns ++ waits) text ≡ None
@@ -57,8 +58,8 @@ UsesWrong m resources waits n (plan.Periods (period_problem.UnknownWait c b)) = 
 UsesWrong m resources waits n (plan.Engine engine.Memory) = Unit {0}
 UsesWrong m resources waits n _ = ⊥
 
--- The text has no uses of n blocks: it is no text of blocks with these columns, or is of another number of blocks, or a use is negative, or
--- what a block waits for is none of the blocks.
+-- The text has no uses of n blocks: it is no text of blocks with these columns, or is of another number of blocks, or a
+-- use is negative, or what a block waits for is none of the blocks.
 abbrev pub UsesFail : ℕ → (columns waits text : List ℕ) → PlanFault → Type 0
 UsesFail n columns waits text (plan.Engine (engine.Blocks p)) = BlocksFails (columns ++ waits) text p
 UsesFail n columns waits text (plan.Engine engine.Memory) = Unit {0}
@@ -68,8 +69,8 @@ UsesFail n columns waits text (plan.Periods (period_problem.NegativeUse r b)) = 
 UsesFail n columns waits text (plan.Periods (period_problem.UnknownWait c b)) = IsWithinLimit text × (blocks.fault_of (columns ++ waits) text ≡ None) × (blocks.record_count_of text ≡ n) × (c < length waits) × (b < n) × ¬ (IsBlock n (cell text (slice_index waits c) b))
 UsesFail n columns waits text _ = ⊥
 
--- Why the texts beside a mine of n blocks aren't read: the fault is one of the periods; or, where these are read, one of what blocks
--- use; or, where that is read too, one of the schedule.
+-- Why the texts beside a mine of n blocks aren't read: the fault is one of the periods; or, where these are read, one
+-- of what blocks use; or, where that is read too, one of the schedule.
 abbrev pub LaterFails : ℕ → List ℕ → List ℕ → PeriodsView → PlanFault → Type 0
 LaterFails n uses text said e = UsesFail n said.resources said.waits uses e ⊎ ScheduleTextFails n (length said.weights) text e
 

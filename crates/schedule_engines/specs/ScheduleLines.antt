@@ -8,7 +8,7 @@ use Rattle.mine_inputs.specs.declared.engine_fault.EngineFault.TheVariants as en
 use Rattle.schedule_value.specs.declared.usage.Over.{Over}
 use Rattle.schedule_value.specs.Judging.{JudgedView}
 
--- the line of a pair behind a word, and those of pairs
+-- the line of a pair after a word, and those of pairs
 abbrev pub pair_line : List ℕ → ℕ × ℕ → List ℕ
 pair_line word pair = word ++ (codes " " ++ (decimal pair.0 ++ (codes " " ++ (decimal pair.1 ++ 10 ∷ []))))
 

@@ -18,9 +18,9 @@ use Rattle.schedule_engines.specs.PlanTexts.{PlanReadFails, ReadsPeriodsText, Re
 use Rattle.schedule_engines.specs.ScheduleLines.{is_clear, schedule_text}
 use Rattle.schedule_engines.specs.Uses.{AreWaits}
 
--- The production of the mine of n blocks that texts denote, over periods, where the columns of a text have what blocks use: a block is
--- worth in a period what it is worth times what the period weighs, and a period has of a resource as many millionths as 10^6 times the
--- whole units that it is said to have.
+-- The production of the mine of n blocks that texts denote, over periods, where the columns of a text have what blocks
+-- use: a block is worth in a period what it is worth times what the period weighs, and a period has of a resource as
+-- many millionths as 10^6 times the whole units that it is said to have.
 abbrev pub plan_of : MineTexts → ℕ → PeriodsView → List ℕ → Production
 plan_of texts n p uses = record {
   mine = mine_of n texts;
@@ -31,9 +31,9 @@ plan_of texts n p uses = record {
   capacity = λ r t. pos (slice_index p.capacities (r * length p.weights + t) * 1000000);
 }
 
--- The texts denote a mine, its periods and a schedule of them, and it is told what this schedule comes to: the blocks that it digs, what
--- they are worth in their periods, of the mine's pairs, each taken once, those that it breaks, of the pairs of blocks that wait those that
--- it digs too early, and where it uses more than there is.
+-- The texts denote a mine, its periods and a schedule of them, and it is told what this schedule comes to: the blocks
+-- that it digs, what they are worth in their periods, of the mine's pairs, each taken once, those that it breaks, of
+-- the pairs of blocks that wait those that it digs too early, and where it uses more than there is.
 pub record IsScheduled (texts : MineTexts) (periods uses text : List ℕ) (v : JudgedView) : Type 0 where
   pub count : ℕ
   pub mine : DenoteMine texts count
@@ -73,12 +73,13 @@ abbrev pub MineAtFault : MineTexts → PlanFault → Type 0
 MineAtFault texts (plan.Engine fault) = MineFails texts fault
 MineAtFault texts _ = ⊥
 
--- Why the engine answers a fault: it is one of the texts of the mine; or, where they are read, one of the texts beside them; or the
--- figures of all of them are too large. Want of memory and a failing device say nothing of the texts.
+-- Why the engine answers a fault: it is one of the texts of the mine; or, where they are read, one of the texts beside
+-- them; or the figures of all of them are too large. Want of memory and a failing device say nothing of the texts.
 abbrev pub PlanFails : MineTexts → List ℕ → List ℕ → List ℕ → PlanFault → Type 0
 PlanFails texts periods uses text e = MineAtFault texts e ⊎ (((n : ℕ) × DenoteMine texts n × PlanReadFails n periods uses text e) ⊎ (NoJudgement texts periods uses e ⊎ (e ≡ plan.Engine engine.Device)))
 
--- what is in the writer at a fault: what was there before, unless a device failed; then perhaps a prefix of an answer too
+-- what is in the writer at a fault: what was there before, unless a device failed; then perhaps a prefix of an answer
+-- too
 abbrev pub WritesSchedulePrefix : MineTexts → List ℕ → List ℕ → List ℕ → Option (List ℕ) → Option (List ℕ) → Type 0
 WritesSchedulePrefix texts periods uses text old new = Keeps old new ⊎ ((v : JudgedView) × IsScheduled texts periods uses text v × ReceivedPrefix old new (schedule_text v))
 

@@ -17,7 +17,8 @@ pub record AreUses (m : BlocksView) (resources : ℕ) (uses : List ℕ) : Type 0
 abbrev pub IsBlock : ℕ → ℤ → Type 0
 IsBlock n z = (a : ℕ) × (a < n) × (z ≡ pos (a * 1000000))
 
--- The pairs that columns list of n blocks, column by column, by so many of their first numbers: a block, and the one whose number it has.
+-- The pairs that columns list of n blocks, column by column, by so many of their first numbers: a block, and the one
+-- whose number it has.
 abbrev pub first_pairs : ℕ → (ℕ → ℕ → ℤ) → ℕ → List (ℕ × ℕ)
 first_pairs n at zero = []
 first_pairs n at (suc i) = first_pairs n at i ++ (i % n, unsigned_abs (at (i / n) (i % n)) / 1000000) ∷ []
@@ -26,13 +27,14 @@ first_pairs n at (suc i) = first_pairs n at i ++ (i % n, unsigned_abs (at (i / n
 abbrev pub waits_by : ℕ → List ℕ → List ℕ → ℕ → ℕ → Bool
 waits_by n columns text = rests_by (first_pairs n (λ c b. cell text (slice_index columns c) b) (length columns * n))
 
--- Each number in the columns of a text is that of one of n blocks, and these are the pairs of blocks that wait, each once and in order.
+-- Each number in the columns of a text is that of one of n blocks, and these are the pairs of blocks that wait, each
+-- once and in order.
 pub record AreWaits (n : ℕ) (columns text : List ℕ) (waits : RestsView) : Type 0 where
   pub blocks : waits.blocks ≡ n
   pub known : (c b : ℕ) → c < length columns → b < n → IsBlock n (cell text (slice_index columns c) b)
   pub are : ArePairsBy (waits_by n columns text) waits.pairs
 
--- the same of so many columns of a model that stand behind others
+-- the same of so many columns of a model that stand after others
 pub record HasWaits (m : BlocksView) (first count : ℕ) (waits : RestsView) : Type 0 where
   pub blocks : waits.blocks ≡ m.blocks
   pub known : (i : ℕ) → i < count * m.blocks → IsBlock m.blocks (use_in m (first + i / m.blocks) (i % m.blocks))

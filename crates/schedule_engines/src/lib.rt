@@ -1,10 +1,11 @@
 //! The engine of `schedule`: a schedule is judged over a mine and its periods.
 //!
 //! Stands on `mine_inputs`, which reads the texts of a mine and says what they denote, on
-//! `periods_file` and `schedule_file`, which read these texts, and on `production_figures` and `schedule_value`, which judge.
-//! Promises upward, over the bytes of the texts: what is written is how many blocks the schedule digs, what they are worth in
-//! their periods, which pairs of the mine it breaks, which blocks it digs too early after those for which they wait, and where
-//! it uses more of a resource than there is; and it is answered whether the schedule is feasible. Other engines read periods, uses and schedules by the same calls, and tell a schedule in the same lines.
+//! `periods_file` and `schedule_file`, which read these texts, and on `production_figures` and `schedule_value`, which
+//! judge. Promises upward, over the bytes of the texts: what is written is how many blocks the schedule digs, what they
+//! are worth in their periods, which pairs of the mine it breaks, which blocks it digs too early after those for which
+//! they wait, and where it uses more of a resource than there is; and it is answered whether the schedule is feasible.
+//! Other engines read periods, uses and schedules by the same calls, and tell a schedule in the same lines.
 #![tactic(auto)]
 
 mod plan_read;

@@ -16,7 +16,8 @@ pub enum PeriodsProblem {
     BlockCount,
     /// A block's use of a resource is negative: the resource, and the block.
     NegativeUse(u32, u32),
-    /// What stands beside a block as that for which it waits is the number of no block: the column of these, and the block.
+    /// What stands beside a block as that for which it waits is the number of no block: the column of these, and the
+    /// block.
     UnknownWait(u32, u32),
     /// A block is worth or costs more than 10^14 units.
     TooLarge,
@@ -31,8 +32,8 @@ pub enum ScheduleProblem {
     Fault(ScheduleFault),
 }
 
-/// Why a schedule could not be judged: a fault of the mine or of a device, as other engines answer them, or one of the periods
-/// or of the schedule.
+/// Why a schedule could not be judged: a fault of the mine or of a device, as other engines answer them, or one of the
+/// periods or of the schedule.
 #[derive(Clone, Copy, Debug, PartialEq, Eq)]
 pub enum PlanFault {
     /// What is wrong is neither the periods nor the schedule.

@@ -70,7 +70,8 @@ fn periods_in(alloc: Global, text: &[u8]) -> Result<Periods, PlanFault>
 /// What the text of an input says of periods.
 ///
 /// # Errors
-/// `Periods` for a text that is too long, or its first fault. `Memory` where memory is refused, `Device` where a read fails.
+/// `Periods` for a text that is too long, or its first fault. `Memory` where memory is refused, `Device` where a read
+/// fails.
 pub fn periods_from<D: CountedRead>(alloc: Global, from: &mut D) -> Result<Periods, PlanFault>
     requires { D.failed from.old < 2 ^ 64 - 1 }
     ensures read { IfSome (D.remaining from.old) (λ text. MatchResult result
@@ -108,8 +109,8 @@ fn schedule_in(alloc: Global, text: &[u8], n: u32, periods: u32) -> Result<Vec<u
 /// The period that the text of an input gives each of n blocks; the number of periods for one that isn't dug.
 ///
 /// # Errors
-/// `Schedule` for a text that is too long, or the fault of its first faulty line. `Memory` where memory is refused, `Device`
-/// where a read fails.
+/// `Schedule` for a text that is too long, or the fault of its first faulty line. `Memory` where memory is refused,
+/// `Device` where a read fails.
 pub fn schedule_from<D: CountedRead>(
     alloc: Global,
     from: &mut D,

@@ -39,8 +39,8 @@ pub(crate) struct Planned {
     pub schedule: Vec<u32>,
 }
 
-/// Whether no pair is broken, none is too early, and nowhere is more used than there is: exactly then a schedule is feasible and
-/// keeps its lag.
+/// Whether no pair is broken, none is too early, and nowhere is more used than there is: exactly then a schedule is
+/// feasible and keeps its lag.
 pub fn is_clear(judged: &Judged) -> bool
     ensures { result ≡ is_clear judged.now.broken.count judged.now.early.count judged.now.over.items }
 {
@@ -84,8 +84,8 @@ fn judged_of(alloc: Global, planned: Planned) -> Result<Judged, PlanFault>
 /// Judges a schedule over a mine that was read, writes what it comes to, and answers whether it is feasible.
 ///
 /// # Errors
-/// `TooLarge` where a block is worth or costs too much, `Memory` where memory is refused: then nothing was written. `Device`
-/// where a write fails: the writer then has a prefix.
+/// `TooLarge` where a block is worth or costs too much, `Memory` where memory is refused: then nothing was written.
+/// `Device` where a write fails: the writer then has a prefix.
 pub(crate) fn judge_planned<W: CountedWrite>(
     alloc: Global,
     planned: Planned,

@@ -1,5 +1,5 @@
-//! Writes the lines of a schedule: its blocks and worth, which pairs it breaks, which blocks it digs too early, and where it uses
-//! more than there is.
+//! Writes the lines of a schedule: its blocks and worth, which pairs it breaks, which blocks it digs too early, and
+//! where it uses more than there is.
 
 ghost use Rattle.std.specs.Prelude.{◌≡◌, ◌+◌, ◌-◌, ◌^◌, ◌<◌, ◌↔◌, ◌++◌, OnOk, IfOk, IfErr, IsErrOf};
 ghost use Rattle.std.specs.Io.KnownBytes.{Appends};
@@ -13,12 +13,13 @@ use mine_inputs::EngineFault;
 use schedule_value::{BrokenPairs, Judged, Over};
 use std::alloc::{AllocError, Global};
 
-/// Writes the lines of a schedule: `SCHEDULE`, the number of blocks and what they are worth; `BROKEN` and the number of pairs
-/// that it breaks, with a line `BREAKS` for each of the first; `EARLY` and a line `WAITS` likewise of blocks that wait, where
-/// some are dug too early; and a line `OVER` for each period that uses more of a resource than it has.
+/// Writes the lines of a schedule: `SCHEDULE`, the number of blocks and what they are worth; `BROKEN` and the number of
+/// pairs that it breaks, with a line `BREAKS` for each of the first; `EARLY` and a line `WAITS` likewise of blocks that
+/// wait, where some are dug too early; and a line `OVER` for each period that uses more of a resource than it has.
 ///
 /// # Errors
-/// `Memory` where memory is refused: then nothing was written. `Device` where a write fails: the writer then has a prefix.
+/// `Memory` where memory is refused: then nothing was written. `Device` where a write fails: the writer then has a
+/// prefix.
 pub(crate) fn write_schedule<W: CountedWrite>(
     alloc: Global,
     judged: &Judged,
@@ -65,7 +66,7 @@ fn text_of_early(alloc: Global, early: &BrokenPairs) -> Result<String, AllocErro
     format!(in alloc; "EARLY {count}\n{waits}")
 }
 
-// A line behind this word for each of these pairs.
+// A line after this word for each of these pairs.
 fn text_of_pairs(alloc: Global, word: &str, pairs: &[(u32, u32)]) -> Result<String, AllocError>
     ensures { IfOk result (λ text. string_bytes text ≡ pairs_text word.now pairs.now) }
 {

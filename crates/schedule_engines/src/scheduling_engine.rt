@@ -17,21 +17,23 @@ use shells::Factor;
 use std::alloc::Global;
 use std::thread::Threads;
 
-/// Judges a schedule of a mine over its periods, where its blocks have prices at the factor that is asked for, and writes what
-/// it comes to.
+/// Judges a schedule of a mine over its periods, where its blocks have prices at the factor that is asked for, and
+/// writes what it comes to.
 ///
-/// The first line is `SCHEDULE count npv`: how many blocks it digs, and what they are worth in their periods. Behind it comes
-/// `BROKEN pairs`, how many pairs of the mine have their predecessor later or never, with a line `BREAKS b p` for each of the
-/// first 20. Where blocks wait for others, and some are dug too early, `EARLY pairs` has how many, with a line `WAITS b a` for
-/// each of the first 20. A line `OVER r t used capacity` comes for each period that uses more of a resource than it has. It
-/// answers whether no pair is broken and no line `EARLY` or `OVER` comes, which is exactly where the schedule is feasible.
+/// The first line is `SCHEDULE count npv`: how many blocks it digs, and what they are worth in their periods. Behind it
+/// comes `BROKEN pairs`, how many pairs of the mine have their predecessor later or never, with a line `BREAKS b p` for
+/// each of the first 20. Where blocks wait for others, and some are dug too early, `EARLY pairs` has how many, with a
+/// line `WAITS b a` for each of the first 20. A line `OVER r t used capacity` comes for each period that uses more of a
+/// resource than it has. It answers whether no pair is broken and no line `EARLY` or `OVER` comes, which is exactly
+/// where the schedule is feasible.
 ///
-/// The inputs are read in the order of the arguments, each to its end, and nothing is written before the answer is known.
+/// The inputs are read in the order of the arguments, each to its end, and nothing is written before the answer is
+/// known.
 ///
 /// # Errors
-/// Those of `mine_inputs::mine_to_check`, then those of the periods, of the blocks that have the uses, and of the schedule.
-/// `Memory` where memory is refused, `Device` where a read or a write fails: the writer has then received a prefix of the
-/// answer, and at every other fault nothing.
+/// Those of `mine_inputs::mine_to_check`, then those of the periods, of the blocks that have the uses, and of the
+/// schedule. `Memory` where memory is refused, `Device` where a read or a write fails: the writer has then received a
+/// prefix of the answer, and at every other fault nothing.
 ///
 /// Each device must have counted fewer than 2^64 - 1 failures, so that one more can be counted.
 pub fn schedule_engine<R: Threads + Sync, D: CountedRead, W: CountedWrite>(

@@ -1,5 +1,5 @@
-//! Reads what blocks use of the resources, and the blocks for which they wait: columns of a block model. No number of the former
-//! may be negative, and each of the latter is that of a block.
+//! Reads what blocks use of the resources, and the blocks for which they wait: columns of a block model. No number of
+//! the former may be negative, and each of the latter is that of a block.
 
 ghost use Rattle.std.specs.Prelude.{◌≡◌, ◌+◌, ◌-◌, ◌*◌, ◌/◌, ◌^◌, ◌<◌, ◌≤◌, ◌↔◌, pos, ◌<ℤ◌, unsigned_abs, ◌++◌, ◌∷◌, [], length, IfOk, IfSome, IsErrOf, MatchOption, MatchResult, OnOk};
 ghost use Rattle.mine_inputs.specs.declared.engine_fault.EngineFault.TheVariants as engine;
@@ -101,7 +101,7 @@ fn push_wait(pairs: &mut Vec<(u32, u32)>, pair: (u32, u32)) -> Result<(), AllocE
     Ok(())
 }
 
-// The pairs that so many columns behind the first ones list.
+// The pairs that so many columns after the first ones list.
 fn waits_of(
     alloc: Global,
     model: &BlockModel,
@@ -159,7 +159,7 @@ fn uses_in(
     Ok(Uses { amounts, waits })
 }
 
-// The columns of resources, and behind them those of the blocks for which blocks wait.
+// The columns of resources, and after them those of the blocks for which blocks wait.
 fn all_columns(alloc: Global, resources: &[u32], waits: &[u32]) -> Result<Vec<u32>, AllocError>
     ensures { IfOk result (λ v. v.items ≡ resources.now ++ waits.now) }
 {
@@ -169,12 +169,12 @@ fn all_columns(alloc: Global, resources: &[u32], waits: &[u32]) -> Result<Vec<u3
     Ok(columns)
 }
 
-/// What the n blocks of a text use of the resources in these columns, at most 8, row by row; and for which blocks they wait by
-/// others, at most 8 too.
+/// What the n blocks of a text use of the resources in these columns, at most 8, row by row; and for which blocks they
+/// wait by others, at most 8 too.
 ///
 /// # Errors
-/// `Blocks` for a fault of the text; `Periods` where it has another number of blocks, a use is negative, or what a block waits
-/// for is no block. `Memory` where memory is refused, `Device` where a read fails.
+/// `Blocks` for a fault of the text; `Periods` where it has another number of blocks, a use is negative, or what a
+/// block waits for is no block. `Memory` where memory is refused, `Device` where a read fails.
 pub fn uses_from<D: CountedRead>(
     alloc: Global,
     from: &mut D,

@@ -1,5 +1,5 @@
-//! Prints a worth at a weight: billionths times millionths as a decimal, with a minus where it is needed, the whole part, and
-//! the fraction without trailing zeros.
+//! Prints a worth at a weight: billionths times millionths as a decimal, with a minus where it is needed, the whole
+//! part, and the fraction without trailing zeros.
 
 ghost use Rattle.std.specs.Prelude.{◌≡◌, ◌<◌, ◌^◌, Some};
 ghost use Rattle.std.specs.Fmt.{DisplaysOnOk, sign_text};

@@ -17,8 +17,8 @@ abbrev pub period_word : List (List ℕ) → Option (List ℕ)
 period_word (block ∷ period ∷ []) = Some period
 period_word _ = None
 
--- What is wrong with these fields as the block and the period of a line, if there are any, given the schedule of the lines before: a
--- block has a period there where one of them named it.
+-- What is wrong with these fields as the block and the period of a line, if there are any, given the schedule of the
+-- lines before: a block has a period there where one of them named it.
 abbrev pub entry_fault : ℕ → ℕ → (ℕ → ℕ) → ℕ → Option (List ℕ) → Option (List ℕ) → Option ScheduleFault
 entry_fault n periods before line (Some block) (Some period) =
     cond (not (reads block)) (Some (Number line))
@@ -58,7 +58,8 @@ first_fault n periods before (l ∷ lines) = option_or (line_fault n periods bef
 abbrev pub fault_of : ℕ → ℕ → List ℕ → Option ScheduleFault
 fault_of n periods text = first_fault n periods (λ b. periods) (lines_in text)
 
--- The schedule of a text over so many periods: the period that a line gives a block, and their number for one that no line names.
+-- The schedule of a text over so many periods: the period that a line gives a block, and their number for one that no
+-- line names.
 abbrev pub schedule_of : ℕ → List ℕ → ℕ → ℕ
 schedule_of periods text = with_lines (λ b. periods) (lines_in text)
 

@@ -2,8 +2,9 @@
 //!
 //! It stands on `fixed_worth` for lines, fields and whole numbers.
 //!
-//! Promises upward: `read_schedule` refuses a text exactly where it has a fault, with the first faulty line, and otherwise
-//! lists exactly the period that the text gives each block, or the number of periods for a block that it doesn't name.
+//! Promises upward: `read_schedule` refuses a text exactly where it has a fault, with the first faulty line, and
+//! otherwise lists exactly the period that the text gives each block, or the number of periods for a block that it
+//! doesn't name.
 #![tactic(auto)]
 
 mod entry_words;

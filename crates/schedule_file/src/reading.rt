@@ -58,15 +58,16 @@ fn read_line(
     Ok(())
 }
 
-/// The period of each of n blocks, at most 2^24, by a schedule over so many periods; the number of periods for a block that
-/// isn't dug.
+/// The period of each of n blocks, at most 2^24, by a schedule over so many periods; the number of periods for a block
+/// that isn't dug.
 ///
-/// Each line names a block and its period, both counted from 0. Passed over are lines without a field, and those whose first
-/// field begins with `%`. The lines may come in any order.
+/// Each line names a block and its period, both counted from 0. Passed over are lines without a field, and those whose
+/// first field begins with `%`. The lines may come in any order.
 ///
 /// # Errors
-/// That of the first faulty line, and of its faults the first in this order: `Text` for more than 65,536 bytes or another
-/// number of fields, `Number`, `UnknownBlock`, `UnknownPeriod`, `Repeated`. `NoMemory` where memory for the periods is refused.
+/// That of the first faulty line, and of its faults the first in this order: `Text` for more than 65,536 bytes or
+/// another number of fields, `Number`, `UnknownBlock`, `UnknownPeriod`, `Repeated`. `NoMemory` where memory for the
+/// periods is refused.
 pub fn read_schedule(
     alloc: Global,
     text: &[u8],

@@ -6,7 +6,8 @@ use Rattle.std.specs.List.{filter}
 abbrev pub period_by : List ℕ → ℕ → ℕ
 period_by periods b = slice_index periods b
 
--- of a pair (b, p): b is dug, and p isn't dug so many periods before or earlier; with a lag of 0 not in the same period or before
+-- of a pair (b, p): b is dug, and p isn't dug so many periods before or earlier; with a lag of 0 not in the same period
+-- or before
 abbrev pub breaks : (lag : ℕ) → (ℕ → ℕ) → ℕ → ℕ × ℕ → Bool
 breaks lag schedule periods pair = nat_lt (schedule pair.0) periods && nat_lt (schedule pair.0) (lag + schedule pair.1)
 

@@ -8,8 +8,9 @@ use Rattle.schedule_value.specs.declared.judging.Judged.{Judged}
 use Rattle.schedule_value.specs.Breaking.{AreBroken, KeepsLags}
 use Rattle.schedule_value.specs.Overuse.{overs_in_rows}
 
--- What is told of a schedule: how many blocks it digs, what it is worth, how many pairs it breaks and the first of them, how many pairs
--- of blocks that wait it digs too early and the first of them, and where it uses more of a resource than there is.
+-- What is told of a schedule: how many blocks it digs, what it is worth, how many pairs it breaks and the first of
+-- them, how many pairs of blocks that wait it digs too early and the first of them, and where it uses more of a
+-- resource than there is.
 pub record JudgedView : Type 0 where
   pub count : ℕ
   pub npv : ℤ
@@ -23,8 +24,9 @@ pub record JudgedView : Type 0 where
 abbrev pub judged_view : Judged → JudgedView
 judged_view j = record { count = j.count; npv = j.npv; broken = j.broken.count; first = j.broken.first.items; early = j.early.count; first_early = j.early.first.items; over = j.over.items }
 
--- This is what a schedule of a production comes to, whose predecessors are these pairs, and whose blocks wait so many periods for others by
--- these. No pair is broken, none is too early and nowhere is more used than there is exactly where it is feasible and keeps the lag.
+-- This is what a schedule of a production comes to, whose predecessors are these pairs, and whose blocks wait so many
+-- periods for others by these. No pair is broken, none is too early and nowhere is more used than there is exactly
+-- where it is feasible and keeps the lag.
 pub record IsJudged (plan : Production) (schedule : ℕ → ℕ) (pairs : List (ℕ × ℕ)) (lag : ℕ) (waits : List (ℕ × ℕ)) (v : JudgedView) : Type 0 where
   pub count : v.count ≡ count_in (is_dug plan schedule) plan.mine.blocks
   pub npv : v.npv ≡ npv_of plan schedule

@@ -1,5 +1,5 @@
-//! Counts the pairs that a schedule breaks, and gives the first of them: of predecessors, which may be dug in the same period,
-//! and of blocks for which others wait so many periods.
+//! Counts the pairs that a schedule breaks, and gives the first of them: of predecessors, which may be dug in the same
+//! period, and of blocks for which others wait so many periods.
 
 ghost use Rattle.std.specs.Prelude.{◌≡◌, ℕ, ◌+◌, ◌<◌, ◌≤◌, List, [], ◌∷◌, ◌++◌, take, length, IfOk, OnOk};
 ghost use Rattle.prec_file.specs.Rests.{first_of};
@@ -9,8 +9,8 @@ ghost use Rattle.schedule_value.specs.Breaking.{AreBroken, breaks, period_by};
 use prec_file::Predecessors;
 use std::alloc::{AllocError, Global};
 
-/// How many pairs (b, p) a schedule breaks, where b is dug and p isn't dug so many periods before or earlier, and the first 20
-/// of them, by b and then by p.
+/// How many pairs (b, p) a schedule breaks, where b is dug and p isn't dug so many periods before or earlier, and the
+/// first 20 of them, by b and then by p.
 #[derive(Drop)]
 pub struct BrokenPairs {
     /// How many there are.
@@ -80,7 +80,8 @@ fn pass_block(
     Ok(())
 }
 
-/// The pairs that a schedule breaks: those of a block that is dug, and of one that isn't dug so many periods before or earlier.
+/// The pairs that a schedule breaks: those of a block that is dug, and of one that isn't dug so many periods before or
+/// earlier.
 ///
 /// # Errors
 /// Memory was refused.

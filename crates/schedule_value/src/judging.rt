@@ -28,9 +28,9 @@ pub struct Judged {
     pub over: Vec<Over>,
 }
 
-/// Judges a schedule, which lists the period of each block: a block whose number isn't that of a period isn't dug. By the pairs
-/// of `waits` a block waits so many periods for another. The schedule is feasible and keeps that lag exactly where no pair is
-/// broken, none is too early and nowhere is more used than there is.
+/// Judges a schedule, which lists the period of each block: a block whose number isn't that of a period isn't dug. By
+/// the pairs of `waits` a block waits so many periods for another. The schedule is feasible and keeps that lag exactly
+/// where no pair is broken, none is too early and nowhere is more used than there is.
 ///
 /// # Errors
 /// Memory was refused.

@@ -4,8 +4,9 @@ use Rattle.closure_net.specs.Mine.{Mine, IsRichest, worth_of}
 use Rattle.schedules.specs.Production.{Production, IsFeasible, npv_of}
 use Rattle.schedules.specs.Expanded.{expanded, price_of_capacities, sum_below}
 
--- A production whose block b may be treated in so many ways, as in a mill or as waste: what it is worth in period t where it goes way d, and
--- what it uses of resource r then. A block that lags behind another is dug in a later period, as where few benches a year can be dug.
+-- A production whose block b may be treated in so many ways, as in a mill or as waste: what it is worth in period t
+-- where it goes way d, and what it uses of resource r then. A block that lags behind another is dug in a later period,
+-- as where few benches a year can be dug.
 pub record Treated : Type 0 where
   pub mine : Mine
   pub periods : ℕ
@@ -27,7 +28,8 @@ by_ways treated way = record {
   capacity = treated.capacity;
 }
 
--- Each block goes one of its ways, each that is dug and lags behind another is dug later, and the schedule is feasible by these ways.
+-- Each block goes one of its ways, each that is dug and lags behind another is dug later, and the schedule is feasible
+-- by these ways.
 pub record IsTreatedFeasible (treated : Treated) (schedule way : ℕ → ℕ) : Type 0 where
   pub ways : (b : ℕ) → b < treated.mine.blocks → way b < treated.ways b
   pub later : (b a : ℕ) → IsTrue (treated.lags b a) → schedule b < treated.periods → schedule a < schedule b
@@ -60,8 +62,8 @@ with_lags n periods lags mine = record {
 abbrev pub treated_mine : Treated → (ℕ → ℕ → ℕ) → (ℕ → ℕ → ℤ) → Mine
 treated_mine treated price left = with_lags treated.mine.blocks treated.periods treated.lags (expanded (leaving treated left) price)
 
--- Whatever the prices, whichever way each block goes, and however blocks lag: no feasible schedule is worth more than the richest pit of the
--- nodes and all capacities at their prices.
+-- Whatever the prices, whichever way each block goes, and however blocks lag: no feasible schedule is worth more than
+-- the richest pit of the nodes and all capacities at their prices.
 abbrev pub NoTreatmentIsWorthMore : Type 0
 NoTreatmentIsWorthMore = (treated : Treated) (price : ℕ → ℕ → ℕ) (left : ℕ → ℕ → ℤ) (pit : ℕ → Bool) (schedule way : ℕ → ℕ)
     → LeavesNoMore treated price left → IsRichest (treated_mine treated price left) pit → IsTreatedFeasible treated schedule way

@@ -1,5 +1,5 @@
--- What only the functions of this crate say to one another: what is decided before memory is asked for, and what is wrong with a
--- table.
+-- What only the functions of this crate say to one another: what is decided before memory is asked for, and what is
+-- wrong with a table.
 use Rattle.std.specs.Prelude.{◌≡◌, true, IsOk}
 use Rattle.toml.specs.Data.{Members}
 use Rattle.settings_file.specs.declared.keys.Key.TheVariants.{Revenue, Tonnes}

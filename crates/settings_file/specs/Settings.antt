@@ -27,7 +27,8 @@ pub record SettingsView : Type 0 where
   pub up : Option UpSign
   pub ways : Option (List WayColumns)
 
--- What settings say of slopes that differ by region: the offsets of each, the column of the block's own, and which way is up.
+-- What settings say of slopes that differ by region: the offsets of each, the column of the block's own, and which way
+-- is up.
 pub record RegionsView : Type 0 where
   pub slopes : Option (List (List (ℤ × ℤ × ℤ)))
   pub region : Option ℕ
@@ -50,7 +51,8 @@ settings_view revenue cost tonnes factors report offsets processing mining slope
   ways = ways;
 }
 
--- What is known of settings that were read: columns are numbered from 0 to 65,535, factors are from 0 to 10,000, and ways are 1 to 8.
+-- What is known of settings that were read: columns are numbered from 0 to 65,535, factors are from 0 to 10,000, and
+-- ways are 1 to 8.
 pub record IsSettings (s : SettingsView) : Type 0 where
   pub revenue : IfSome s.revenue (λ column. column ≤ 65535)
   pub cost : IfSome s.cost (λ column. column ≤ 65535)
@@ -134,8 +136,8 @@ pub record IsDocument (text : List ℕ) (ms : Members) : Type 0 where
 abbrev pub Says : List ℕ → (Members → Type 0) → Type 0
 Says text P = (ms : Members) × IsDocument text ms × P ms
 
--- What the reader answers for a text. Memory is asked for only where the text is UTF-8, and a key that is missing or unused is no
--- fault of the text.
+-- What the reader answers for a text. Memory is asked for only where the text is UTF-8, and a key that is missing or
+-- unused is no fault of the text.
 abbrev pub ReadsSettings : List ℕ → Result SettingsView SettingsFault → Type 0
 ReadsSettings text (Ok s) = Says text (λ ms. settings_in ms ≡ Ok s)
 ReadsSettings text (Err NotToml) = IsUtf8 text → parse_document text ≡ None

@@ -56,12 +56,14 @@ abbrev pub if_factors : Option (List ℕ) → Option (List ℕ)
 if_factors (Some ns) = cond ((nat_le 1 (length ns) && nat_le (length ns) MOST_FACTORS) && are_ascending ns) (Some ns) None
 if_factors None = None
 
--- The factors that the items of an array are: whole numbers from 0 to 10,000, as many and in such order as factors must be.
+-- The factors that the items of an array are: whole numbers from 0 to 10,000, as many and in such order as factors must
+-- be.
 abbrev pub factors_of_items : Option Items → Option (List ℕ)
 factors_of_items (Some ds) = if_factors (all_read (whole_value_within MOST_FACTOR) ds)
 factors_of_items None = None
 
--- What a value reads as that has to be factors: an array of 1 to 64 whole numbers from 0 to 10,000, each above the one before it.
+-- What a value reads as that has to be factors: an array of 1 to 64 whole numbers from 0 to 10,000, each above the one
+-- before it.
 abbrev pub factors_of : Data → Option (List ℕ)
 factors_of d = factors_of_items (as_array d)
 
@@ -129,7 +131,8 @@ abbrev pub way_of_members : Option Members → Option WayColumns
 way_of_members (Some ms) = cond (all_named is_way_key ms) (two_columns (column_at Revenue ms) (column_at Processing ms)) None
 way_of_members None = None
 
--- What a value reads as that has to be a way: a table `{ revenue = COLUMN, processing = COLUMN }`, with columns from 0 to 65,535.
+-- What a value reads as that has to be a way: a table `{ revenue = COLUMN, processing = COLUMN }`, with columns from 0
+-- to 65,535.
 abbrev pub way_of : Data → Option WayColumns
 way_of d = way_of_members (as_table d)
 

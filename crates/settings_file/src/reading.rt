@@ -211,9 +211,10 @@ fn settings_of(alloc: Global, table: &Table) -> Result<Settings, SettingsFault>
 /// What a text says as settings.
 ///
 /// # Errors
-/// In this order: `NotToml` where the text is no TOML document; `UnknownKey` where a name of its table is no key; `BadValue`
-/// with the first key whose value is of a wrong kind or out of its range (a cost beside a mill's charges counts as a bad value
-/// of `cost`, and so do offsets beside slopes by region). `NoMemory` where memory is refused. Never `Unused` or `Missing`.
+/// In this order: `NotToml` where the text is no TOML document; `UnknownKey` where a name of its table is no key;
+/// `BadValue` with the first key whose value is of a wrong kind or out of its range (a cost beside a mill's charges
+/// counts as a bad value of `cost`, and so do offsets beside slopes by region). `NoMemory` where memory is refused.
+/// Never `Unused` or `Missing`.
 pub fn read_settings(alloc: Global, bytes: &[u8]) -> Result<Settings, SettingsFault>
     ensures { ReadsSettings bytes.now result }
 {

@@ -1,5 +1,5 @@
-//! What settings say: the columns of revenue, costs and tonnes, or of each way to treat blocks, the factors of the shells
-//! and of the report, and the offsets of a slope or of the slope of each region, each where its key is there.
+//! What settings say: the columns of revenue, costs and tonnes, or of each way to treat blocks, the factors of the
+//! shells and of the report, and the offsets of a slope or of the slope of each region, each where its key is there.
 
 ghost use Rattle.std.specs.Prelude.{◌≡◌, ◌≤◌, IfSome, map, option_map};
 ghost use Rattle.settings_file.specs.Values.{AreFactors, AreWays};

@@ -7,14 +7,15 @@ use std::fmt;
 /// first in the order of [`Key`].
 #[derive(Clone, Copy, Debug, PartialEq, Eq)]
 pub enum SettingsFault {
-    /// The text is no TOML document: also where it is no UTF-8, names a key twice, or has a whole number of more than 64 bits.
+    /// The text is no TOML document: also where it is no UTF-8, names a key twice, or has a whole number of more than
+    /// 64 bits.
     NotToml,
     /// A name of the document's table is none of the keys.
     UnknownKey,
     /// The key's value has a wrong kind or is out of its range.
     BadValue(Key),
-    /// A key is there of which the command makes no use, though it matters: what the key says would go unheard. The reader
-    /// never answers this.
+    /// A key is there of which the command makes no use, though it matters: what the key says would go unheard. The
+    /// reader never answers this.
     Unused(Key),
     /// A key that the command needs isn't there. The reader never answers this.
     Missing(Key),

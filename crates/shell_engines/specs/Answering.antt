@@ -7,18 +7,20 @@ use Rattle.engines.specs.declared.judgement.Verdict.{Verdict}
 use Rattle.mine_inputs.specs.declared.engine_fault.EngineFault.{EngineFault}
 use Rattle.mine_inputs.specs.declared.engine_fault.EngineFault.TheVariants as engine
 
--- Why a fault is answered, from what is so where the texts denote no mine, where they denote one, and where an amount of the mine's
--- overflows. Want of memory and a failing device say nothing of the texts; want of a thread and a board that comes back as another's,
--- that they denote a mine, of which a run was begun.
+-- Why a fault is answered, from what is so where the texts denote no mine, where they denote one, and where an amount
+-- of the mine's overflows. Want of memory and a failing device say nothing of the texts; want of a thread and a board
+-- that comes back as another's, that they denote a mine, of which a run was begun.
 abbrev pub FailsBy : (EngineFault → Type 0) → Type 0 → (NetFault → Type 0) → EngineFault → Type 0
 FailsBy Unread Denoted NoNet (engine.Model fault) = NoNet fault
 FailsBy Unread Denoted NoNet engine.Thread = Denoted
 FailsBy Unread Denoted NoNet engine.Stranger = Denoted
 FailsBy Unread Denoted NoNet fault = Unread fault
 
--- ---- Two texts are written: a table of blocks to its file, of which `before` and `after` are the bytes, and then an answer to the output.
+-- ---- Two texts are written: a table of blocks to its file, of which `before` and `after` are the bytes, and then an
+-- answer to the output.
 
--- a device failed: the file has a prefix of the table, and the output nothing; or the file has the table, and the output a prefix of the answer
+-- a device failed: the file has a prefix of the table, and the output nothing; or the file has the table, and the
+-- output a prefix of the answer
 abbrev pub IsCutShort : List ℕ → List ℕ → Option (List ℕ) → Option (List ℕ) → Option (List ℕ) → Option (List ℕ) → Type 0
 IsCutShort table text before after old new = (ReceivedPrefix before after table × Keeps old new) ⊎ (Appends before after table × ReceivedPrefix old new text)
 

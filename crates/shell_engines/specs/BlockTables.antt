@@ -16,9 +16,9 @@ mine_at_factor n settings blocks precedence factor = mine_of n (texts_by setting
 abbrev pub way_said : List ℕ → List ℕ → ℕ → Option ℕ
 way_said settings blocks b = way_at (table_of settings blocks) (report_factor settings) b
 
--- The texts denote a mine at each factor, the pits at the factors of the settings are the best ones, and this text has for each
--- of its blocks, ascending, the first of the factors whose pit holds it; and where ways are wanted, which way it goes at the factor
--- of the report.
+-- The texts denote a mine at each factor, the pits at the factors of the settings are the best ones, and this text has
+-- for each of its blocks, ascending, the first of the factors whose pit holds it; and where ways are wanted, which way
+-- it goes at the factor of the report.
 pub record IsBlockTable (ways : Bool) (settings blocks : List ℕ) (precedence : PrecedenceBy) (text : List ℕ) : Type 0 where
   pub size : ℕ
   pub mine : (factor : ℕ) → DenoteMine (texts_by settings blocks precedence factor) size

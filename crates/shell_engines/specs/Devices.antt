@@ -1,5 +1,5 @@
--- The inputs and outputs of an engine over the factors of settings, as devices: the bytes that they tell, and the failures that they
--- count.
+-- The inputs and outputs of an engine over the factors of settings, as devices: the bytes that they tell, and the
+-- failures that they count.
 use Rattle.std.specs.Prelude.{◌≡◌, ℕ, ◌+◌, ◌-◌, ◌^◌, ◌<◌, Bool, true, false, List, Option, Some, None, IfSome, option_map}
 use Rattle.mine_inputs.specs.Mines.{PrecedenceBy, by_slopes, by_text}
 use Rattle.shell_engines.specs.declared.series_inputs.SeriesInputs.{SeriesInputs}
@@ -13,8 +13,8 @@ failures_in (Some device) failed = failed device
 
 -- ---- inputs
 
--- what says which block rests on which: the text of a device where there is one, if it tells its bytes, and the slopes where there
--- is none
+-- what says which block rests on which: the text of a device where there is one, if it tells its bytes, and the slopes
+-- where there is none
 abbrev pub precedence_in : {D : Type 0} → Option D → (D → Option (List ℕ)) → Option PrecedenceBy
 precedence_in None remaining = Some by_slopes
 precedence_in (Some device) remaining = option_map by_text (remaining device)
@@ -47,7 +47,8 @@ abbrev pub is_asked : {V : Type 0} → Option V → Bool
 is_asked None = false
 is_asked (Some device) = true
 
--- what is wanted beside the answer: the table of blocks where there is a device for it, and ways where they are asked for
+-- what is wanted beside the answer: the table of blocks where there is a device for it, and ways where they are asked
+-- for
 abbrev pub wanted_by : {V W : Type 0} → SeriesOutputs V W → Wanted
 wanted_by outputs = record { table = is_asked outputs.by_block; ways = outputs.ways }
 

@@ -19,8 +19,9 @@ pub record ArePriced (pairs : List (ℕ × ℕ)) (prices : PricesView) (factors 
   pub few : priced_count prices ≤ MOST_BLOCKS
   pub rising : IsAscending factors
 
--- The best pit at each of the factors from one place to another has the blocks of one list, and beside them none but those of
--- another: the one is a floor of it, and both together are a ceiling. Both lists ascend, and each block of them has a price.
+-- The best pit at each of the factors from one place to another has the blocks of one list, and beside them none but
+-- those of another: the one is a floor of it, and both together are a ceiling. Both lists ascend, and each block of
+-- them has a price.
 pub record LiesBetweenLists (pairs : List (ℕ × ℕ)) (prices : PricesView) (factors : List ℕ) (from to : ℕ) (low kept : List ℕ) : Type 0 where
   pub high : ℕ → Bool
   pub inside : to ≤ length factors

@@ -43,7 +43,8 @@ pub record IsAdded (s t : SeriesView) (rows rows' : List ShellRow) (factor : ℕ
   pub at : row.factor ≡ factor
   pub is : IsRowOf (mine_at s.pairs s.prices factor) row
 
--- the fault where that is the reason why no pit is proved; and where memory is refused for the line that says the reason
+-- the fault where that is the reason why no pit is proved; and where memory is refused for the line that says the
+-- reason
 abbrev pub IsWant : Unsolved → EngineFault → Type 0
 IsWant NoThread e = e ≡ engine.Thread
 IsWant Stranger e = e ≡ engine.Stranger
@@ -60,8 +61,8 @@ IsFaultOf (none.Unsolved factor why) e = IsWant why e
 IsFaultOf (none.Model factor fault) e = e ≡ of_model fault
 IsFaultOf none.Memory e = e ≡ engine.Memory
 
--- the text has the shell of each block of a series where that is asked for (true), with its way at a factor where ways are; and
--- otherwise it is empty
+-- the text has the shell of each block of a series where that is asked for (true), with its way at a factor where ways
+-- are; and otherwise it is empty
 abbrev pub HasTableIfAsked : (asked ways : Bool) → ℕ → SeriesView → List ℕ → Type 0
 HasTableIfAsked true ways factor series text = text ≡ blocks_text ways (shell_at series.shells) (way_at series.prices factor) (priced_count series.prices)
 HasTableIfAsked false ways factor series text = text ≡ []

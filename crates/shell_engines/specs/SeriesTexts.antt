@@ -1,5 +1,5 @@
--- The texts of a mine of which shells are drawn: settings that name its prices and the factors, blocks, and what says which block
--- rests on which.
+-- The texts of a mine of which shells are drawn: settings that name its prices and the factors, blocks, and what says
+-- which block rests on which.
 use Rattle.std.specs.Prelude.{◌≡◌, ℕ, ◌-◌, Bool, List, [], ◌∷◌, length, slice_index_or, None, unwrap_or}
 use Rattle.prec_file.specs.Rests.{RestsView}
 use Rattle.settings_file.specs.declared.keys.Key.{Key}

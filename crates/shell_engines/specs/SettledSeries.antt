@@ -26,8 +26,8 @@ pub record IsNetAt (block : ℤ → ℕ → Amount) (pairs : List (ℕ × ℕ)) 
   pub is_net : IsNet net
   pub over : IsOver block pairs prices factor net
 
--- Why no pit is proved at a factor. One worker or two run without a lock, and where that run is unsettled nothing is said of the net
--- but that its totals fit words; everything else is said of runs under a lock, and of pseudoflow.
+-- Why no pit is proved at a factor. One worker or two run without a lock, and where that run is unsettled nothing is
+-- said of the net but that its totals fit words; everything else is said of runs under a lock, and of pseudoflow.
 abbrev pub NotSolvedStands : NetView → Effort → unsolved.Unsolved → Type 0
 NotSolvedStands net effort Unsettled = ((effort.workers < 3) × HasWords net) ⊎ UnsolvedStands net effort.method effort.steps Unsettled
 NotSolvedStands net effort reason = UnsolvedStands net effort.method effort.steps reason

@@ -33,8 +33,8 @@ pub record DenoteSeries (settings blocks : List ℕ) (precedence : PrecedenceBy)
   pub mine : (factor : ℕ) → DenoteMine (texts_by settings blocks precedence factor) size
   pub keys : KeysKnown (is_sloped precedence) settings
 
--- The texts denote a mine at each of the factors of the settings, and this one the table of its best pits, each of which
--- lies within the next.
+-- The texts denote a mine at each of the factors of the settings, and this one the table of its best pits, each of
+-- which lies within the next.
 pub record IsShellTable (settings blocks : List ℕ) (precedence : PrecedenceBy) (text : List ℕ) : Type 0 where
   pub size : ℕ
   pub mine : (factor : ℕ) → DenoteMine (texts_by settings blocks precedence factor) size

@@ -25,8 +25,8 @@ fn table_of_blocks(
     }
 }
 
-/// The text of the shell of each block of a series, with its way at the factor of the report where ways are wanted; nothing
-/// where the table isn't.
+/// The text of the shell of each block of a series, with its way at the factor of the report where ways are wanted;
+/// nothing where the table isn't.
 ///
 /// # Errors
 /// Memory was refused.

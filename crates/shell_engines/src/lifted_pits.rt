@@ -122,8 +122,8 @@ fn worth_of(prices: &Prices, blocks: &[u32], factor: Factor) -> Option<i128>
     Some(sum)
 }
 
-/// The pit of these blocks at a factor, with what it has: none exactly where they don't ascend, one of them has no price, or a
-/// sum of their worths doesn't fit.
+/// The pit of these blocks at a factor, with what it has: none exactly where they don't ascend, one of them has no
+/// price, or a sum of their worths doesn't fit.
 pub fn best_with(prices: &Prices, blocks: Vec<u32>, factor: Factor) -> Option<BestPit>
     ensures best { IfSome result (λ best. (pairs : List (ℕ × ℕ))
         → IsBest (mine_at pairs prices.now factor) (holds_of blocks.items)

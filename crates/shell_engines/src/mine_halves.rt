@@ -1,5 +1,5 @@
-//! The best pits of a mine at its factors, by halves: the best pit at a factor parts the blocks. Those of lower factors lie
-//! within it, and those of higher ones have it, so that each part is solved by itself.
+//! The best pits of a mine at its factors, by halves: the best pit at a factor parts the blocks. Those of lower factors
+//! lie within it, and those of higher ones have it, so that each part is solved by itself.
 
 ghost use Rattle.std.specs.Prelude.{◌≡◌, ℕ, ◌<◌, ◌≤◌, ◌++◌, ◌∷◌, [], All, List, cond, nat_lt, IfOk, OnOk, IfSome};
 ghost use Rattle.shells.specs.Prices.{PricesView};
@@ -73,8 +73,8 @@ fn next_place(count: usize, taken: &AtomicU64) -> Option<usize>
     if place < count { Some(place) } else { None }
 }
 
-// At which of its factors a part is solved. The highest of all first: its best pit bounds all others, and often has few of a
-// mine's blocks. Then the middle one.
+// At which of its factors a part is solved. The highest of all first: its best pit bounds all others, and often has few
+// of a mine's blocks. Then the middle one.
 fn first_of(part: &Part, factors: usize) -> usize
     requires { part.now.from < part.now.to }
     ensures { (part.now.from ≤ result) × (result < part.now.to) }
@@ -158,8 +158,8 @@ fn level_of<R: Threads + Sync, T: SeriesProgress + Sync>(
     Ok(all)
 }
 
-/// The best pits at a mine's factors that pseudoflow finds within its turns and a check accepts, in no order. They are found by
-/// as many threads as the effort has workers, where these can be made.
+/// The best pits at a mine's factors that pseudoflow finds within its turns and a check accepts, in no order. They are
+/// found by as many threads as the effort has workers, where these can be made.
 ///
 /// # Errors
 /// Memory was refused.

@@ -113,8 +113,8 @@ fn net_among(
     Net::<Scaled>::of_worths(alloc, small, worths.as_slice())
 }
 
-// The best pit at a factor of the part, and the parts of the others: those of lower factors lie within it, and those of higher
-// ones have it. None where it isn't found.
+// The best pit at a factor of the part, and the parts of the others: those of lower factors lie within it, and those of
+// higher ones have it. None where it isn't found.
 fn by_pit(
     alloc: Global,
     mine: &SeriesMine,
@@ -190,7 +190,8 @@ impl Part {
         })
     }
 
-    // What a part gives where nothing is found at a factor: its other factors are those below this place and from the next on.
+    // What a part gives where nothing is found at a factor: its other factors are those below this place and from the
+    // next on.
     fn unsolved(&self, alloc: Global, place: usize, next: usize) -> Result<Halved, AllocError>
         requires first { self.now.from ≤ next }
         requires last { place ≤ self.now.to }
@@ -236,9 +237,9 @@ fn without_blocks(
     })
 }
 
-/// Solves the part of a mine at the factor at this place. A part without further blocks is always solved, unless the worths of
-/// its low blocks have no sum within 128 bits; another one where the amounts of its net fit, pseudoflow finds a flow that a
-/// check accepts, and the worths of its pit have a sum.
+/// Solves the part of a mine at the factor at this place. A part without further blocks is always solved, unless the
+/// worths of its low blocks have no sum within 128 bits; another one where the amounts of its net fit, pseudoflow finds
+/// a flow that a check accepts, and the worths of its pit have a sum.
 ///
 /// # Errors
 /// Memory was refused.

@@ -28,9 +28,9 @@ use std::thread::Threads;
 use workers::Gate;
 
 /// Draws the shells of the mine of settings, blocks and a precedence: a line for each factor of the settings,
-/// `SHELL factor blocks worth`, with what the best pit at that factor has. Where the table of blocks is asked for, it is
-/// written first: a line for each block with the first factor whose best pit holds it, and where ways are wanted too, with
-/// its way at the factor of the report: the settings' key `report`, or else the last of the factors.
+/// `SHELL factor blocks worth`, with what the best pit at that factor has. Where the table of blocks is asked for, it
+/// is written first: a line for each block with the first factor whose best pit holds it, and where ways are wanted
+/// too, with its way at the factor of the report: the settings' key `report`, or else the last of the factors.
 ///
 /// `Done` where the lines were written: each pit was checked with a flow that proves it, and added to a series, before
 /// anything was written; of two of them the one at the lower factor lies within the other. `No` where at a factor no
@@ -41,8 +41,8 @@ use workers::Gate;
 /// # Errors
 /// In this order: `Settings` for a fault of this text or a missing key; `Blocks`; `Prices` for a negative revenue;
 /// `Prec`; `Model` where at a factor an amount of the mine's net doesn't fit. `Memory`, `Thread`, `Stranger` and
-/// `Device` as of `solve_engine`. At `Device` there may be a prefix of the table, or the whole table and a prefix of the
-/// lines; at every other fault nothing was written.
+/// `Device` as of `solve_engine`. At `Device` there may be a prefix of the table, or the whole table and a prefix of
+/// the lines; at every other fault nothing was written.
 ///
 /// Each device must have counted fewer than 2^64 - 1 failures, so that one more can be counted.
 pub fn shells_engine<
@@ -112,8 +112,8 @@ fn answer_of<R: Threads + Wait + Sync, T: Gate + Progress + SeriesProgress>(
     })
 }
 
-/// The answer where there is no series: `No`, with the line `UNSETTLED factor` where at a factor, in thousandths, the run
-/// needs more steps, `REFUSED TooLarge` where a number of it doesn't fit; without a table.
+/// The answer where there is no series: `No`, with the line `UNSETTLED factor` where at a factor, in thousandths, the
+/// run needs more steps, `REFUSED TooLarge` where a number of it doesn't fit; without a table.
 ///
 /// # Errors
 /// `Model`, `Memory`, `Thread` and `Stranger`, where that is the reason; `Memory` too where it is refused here.

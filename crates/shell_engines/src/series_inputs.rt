@@ -49,8 +49,8 @@ impl<D> SeriesInputs<D> {
 pub struct SeriesMine {
     /// The prices of the blocks.
     pub prices: Prices,
-    /// The predecessors of each block. The index that a series has beside them is made once the pits are found, which takes
-    /// less memory.
+    /// The predecessors of each block. The index that a series has beside them is made once the pits are found, which
+    /// takes less memory.
     pub predecessors: Predecessors,
     /// The factors, rising.
     pub factors: Vec<Factor>,

@@ -51,7 +51,8 @@ impl Shells {
     }
 }
 
-// The best pit of a series' mine at a factor, looked for now: where the method ends with pseudoflow, that gave up on it.
+// The best pit of a series' mine at a factor, looked for now: where the method ends with pseudoflow, that gave up on
+// it.
 fn best_at<R: Threads + Wait + Sync, T: Gate + Progress>(
     rt: &R,
     alloc: Global,
@@ -87,7 +88,8 @@ struct WantedPits<'a> {
 }
 
 impl Shells {
-    // Adds the best pit at the factor at this place: the one that was found beside others, or else one that is looked for now.
+    // Adds the best pit at the factor at this place: the one that was found beside others, or else one that is looked
+    // for now.
     fn settle_at<R: Threads + Wait + Sync, T: Gate + Progress + SeriesProgress>(
         &mut self,
         rt: &R,
@@ -121,8 +123,9 @@ impl Shells {
     }
 }
 
-// What pseudoflow finds at the factors, by as many threads as the effort has workers: unless the machine alone was asked for,
-// it is tried first on a mine of any size, since a series asks for many pits, of which each takes the machine seconds.
+// What pseudoflow finds at the factors, by as many threads as the effort has workers: unless the machine alone was
+// asked for, it is tried first on a mine of any size, since a series asks for many pits, of which each takes the
+// machine seconds.
 fn found_first<R: Threads + Sync, T: SeriesProgress + Sync>(
     rt: &R,
     alloc: Global,
@@ -142,11 +145,12 @@ fn found_first<R: Threads + Sync, T: SeriesProgress + Sync>(
 /// The shells of a mine at its factors: each factor's mine is solved, a check accepts its flow, and the pit is added to
 /// the series, in the order of the factors.
 ///
-/// Unless push-relabel alone was asked for, `found_beside` solves the factors by halves, by pseudoflow: the blocks between two pits that are
-/// known make a smaller mine, and as many threads as the effort has workers share the smaller mines of a level. A factor at
-/// which that proves no pit is solved afterwards over the whole mine, unless the method ends with pseudoflow. There, and where
-/// push-relabel alone was asked for, one factor is solved after another, and the workers are the machine's: one or two run
-/// without a lock, and more under one. The pits don't depend on the schedule: a mine has one best pit at a factor.
+/// Unless push-relabel alone was asked for, `found_beside` solves the factors by halves, by pseudoflow: the blocks
+/// between two pits that are known make a smaller mine, and as many threads as the effort has workers share the smaller
+/// mines of a level. A factor at which that proves no pit is solved afterwards over the whole mine, unless the method
+/// ends with pseudoflow. There, and where push-relabel alone was asked for, one factor is solved after another, and the
+/// workers are the machine's: one or two run without a lock, and more under one. The pits don't depend on the schedule:
+/// a mine has one best pit at a factor.
 ///
 /// # Errors
 /// Of the first factor at which no pit is proved: `Unsolved` with the reason, `Model` where an amount of its net

@@ -35,7 +35,7 @@ fn line_of(alloc: Global, row: ShellRow) -> Result<String, AllocError>
     format!(in alloc; "{row}\n")
 }
 
-/// The lines of the rows, one behind the other.
+/// The lines of the rows, one after the other.
 ///
 /// # Errors
 /// Memory was refused.

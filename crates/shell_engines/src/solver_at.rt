@@ -18,12 +18,12 @@ use std::sync::Wait;
 use std::thread::Threads;
 use workers::Gate;
 
-/// A pit of a net with a flow that proves it. One worker or two run without a lock; where a number of that run doesn't fit a word,
-/// and where there are more workers, the effort's method finds it under one, with all the steps.
+/// A pit of a net with a flow that proves it. One worker or two run without a lock; where a number of that run doesn't
+/// fit a word, and where there are more workers, the effort's method finds it under one, with all the steps.
 ///
 /// # Errors
-/// `Unsettled` where the effort's steps don't end a run, `TooLarge` where a number of the run under the lock doesn't fit;
-/// `NoMemory`, `NoThread`, `Stranger`, and `GaveUp`, as `solution_of` answers them.
+/// `Unsettled` where the effort's steps don't end a run, `TooLarge` where a number of the run under the lock doesn't
+/// fit; `NoMemory`, `NoThread`, `Stranger`, and `GaveUp`, as `solution_of` answers them.
 pub fn solution_at<R: Threads + Wait + Sync, T: Gate + Progress>(
     rt: &R,
     alloc: Global,

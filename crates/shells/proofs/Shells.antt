@@ -1,4 +1,5 @@
--- What a shell is, and that no block has one at the opening; and that a net over pairs and prices is that of their mine.
+-- What a shell is, and that no block has one at the opening; and that a net over pairs and prices is that of their
+-- mine.
 use Rattle.fixed_worth.proofs.Common.{◌≡◌, ℕ, ◌<◌, List, Option, Some, None, refl, ap, ◌∙◌, arith, ℤ, le-leb, lt-leb, common_steps}
 use Rattle.prec_file.specs.Rests.{IsRests}
 use Rattle.closure_net.proofs.BestPits.{best_is_one}

@@ -15,8 +15,8 @@ pub record WayView : Type 0 where
   pub revenue : List ℤ
   pub processing : List ℤ
 
--- What blocks earn and what is charged for them, in millionths: the revenue and the cost of each; or else the ways to treat it,
--- and what it costs to mine it, wherever it goes.
+-- What blocks earn and what is charged for them, in millionths: the revenue and the cost of each; or else the ways to
+-- treat it, and what it costs to mine it, wherever it goes.
 pub data PricesView : Type 0 where
   plain_prices : (revenue cost : List ℤ) → PricesView
   treated_prices : (ways : List WayView) (mining : List ℤ) → PricesView
@@ -43,8 +43,8 @@ abbrev pub best_of : List ℤ → ℤ
 best_of [] = pos 0
 best_of (w ∷ ws) = int_max w (best_of ws)
 
--- What block b is worth at so many thousandths of its revenue, in billionths. Where there are ways to treat it, it goes the way
--- that is worth most, or to waste: waste earns nothing and isn't processed, and mining is charged either way.
+-- What block b is worth at so many thousandths of its revenue, in billionths. Where there are ways to treat it, it goes
+-- the way that is worth most, or to waste: waste earns nothing and isn't processed, and mining is charged either way.
 abbrev pub worth_at : PricesView → ℕ → ℕ → ℤ
 worth_at (plain_prices revenue cost) k b = left_at revenue cost k b
 worth_at (treated_prices ways mining) k b = best_of (worths_by ways k b) -ℤ pos 1000 *ℤ number_at mining b
@@ -53,8 +53,8 @@ worth_at (treated_prices ways mining) k b = best_of (worths_by ways k b) -ℤ po
 abbrev pub first_best : List ℤ → Option ℕ
 first_best ws = cond (int_lt (pos 0) (best_of ws)) (position (λ w. int_eq w (best_of ws)) ws) None
 
--- Which way block b goes at so many thousandths of its revenue: the first that is worth most, by its place in the order of the
--- ways; none where it goes to waste, since no way is worth more than zero, and none where there are no ways.
+-- Which way block b goes at so many thousandths of its revenue: the first that is worth most, by its place in the order
+-- of the ways; none where it goes to waste, since no way is worth more than zero, and none where there are no ways.
 abbrev pub way_at : PricesView → ℕ → ℕ → Option ℕ
 way_at (plain_prices revenue cost) k b = None
 way_at (treated_prices ways mining) k b = first_best (worths_by ways k b)
@@ -98,8 +98,8 @@ pub record IsFirstNegative (table : PricesView) (b : ℕ) : Type 0 where
   pub negative : Any (λ r. r <ℤ pos 0) (revenues_at table b)
   pub before : (c : ℕ) → c < b → All (λ r. pos 0 ≤ℤ r) (revenues_at table c)
 
--- why lists are no table: their lengths differ, there are no ways or too many, there are more than 2^24 blocks, or a revenue is
--- negative, of which the first block is named
+-- why lists are no table: their lengths differ, there are no ways or too many, there are more than 2^24 blocks, or a
+-- revenue is negative, of which the first block is named
 abbrev pub PricesFaultStands : PricesView → PricesFault → Type 0
 PricesFaultStands table WrongLength = (AreListed table → ⊥) ⊎ (MOST_BLOCKS < priced_count table)
 PricesFaultStands table (NegativeRevenue b) = AreListed table × (priced_count table ≤ MOST_BLOCKS) × IsFirstNegative table b

@@ -17,9 +17,9 @@ use std::alloc::{AllocError, Global};
 use std::marker::Model;
 use std::thread::Threads;
 
-/// What blocks earn and what is charged for them: the revenue and the cost of each; or, where a block goes one of several
-/// ways or to waste, whichever is worth most, its revenue and its processing by each way and what it costs to mine it. No
-/// revenue is negative.
+/// What blocks earn and what is charged for them: the revenue and the cost of each; or, where a block goes one of
+/// several ways or to waste, whichever is worth most, its revenue and its processing by each way and what it costs to
+/// mine it. No revenue is negative.
 #[derive(Drop)]
 pub struct Prices {
     table: Table,
@@ -83,8 +83,8 @@ impl Prices {
     }
 
     /// The prices of blocks that are treated in one of these ways or go to waste, whichever is worth most. By a way a
-    /// block earns that way's revenue and is charged for that way's processing; as waste it earns nothing; for mining it
-    /// is charged wherever it goes.
+    /// block earns that way's revenue and is charged for that way's processing; as waste it earns nothing; for mining
+    /// it is charged wherever it goes.
     ///
     /// # Errors
     /// In this order: `WrongLength` where a list has more or fewer numbers than that of mining, where this has more
@@ -128,7 +128,8 @@ impl Prices {
     }
 
     /// What block b is worth at a factor, in billionths: the factor times its revenue, less its cost. Where there are
-    /// ways: the greatest of zero and, over the ways, the factor times its revenue less its processing; less its mining.
+    /// ways: the greatest of zero and, over the ways, the factor times its revenue less its processing; less its
+    /// mining.
     pub fn worth(&self, b: u32, factor: Factor) -> i128
         requires { b < priced_count self.now }
         ensures { result ≡ worth_at self.now factor b }
@@ -144,8 +145,8 @@ impl Prices {
         self.table.worth(b, factor.get())
     }
 
-    /// Which way block b goes at a factor, by its place in the order of the ways: the first of those by which it is worth
-    /// most. None where it goes to waste, since no way is worth more than zero, and none where there are no ways.
+    /// Which way block b goes at a factor, by its place in the order of the ways: the first of those by which it is
+    /// worth most. None where it goes to waste, since no way is worth more than zero, and none where there are no ways.
     pub fn way_of(&self, b: u32, factor: Factor) -> Option<u32>
         requires { b < priced_count self.now }
         ensures { result ≡ way_at self.now factor b }

@@ -104,9 +104,9 @@ impl Series {
         Ok(())
     }
 
-    /// Adds the best pit at a factor above the others, for one who knows that it is the best: each of its blocks that has
-    /// no shell gets this one. Where `push` compares the net with the pairs and the prices, here the caller's proof stands
-    /// for it. Takes no memory.
+    /// Adds the best pit at a factor above the others, for one who knows that it is the best: each of its blocks that
+    /// has no shell gets this one. Where `push` compares the net with the pairs and the prices, here the caller's proof
+    /// stands for it. Takes no memory.
     pub fn push_best(&mut self, factor: Factor, pit: &Pit)
         requires above { IsAboveAll self.old.factors factor }
         requires best { IsBest (mine_at self.old.pairs self.old.prices factor) (holds_of pit.now) }

@@ -1,5 +1,5 @@
-//! A way to treat blocks, as milling or leaching: what each earns by it and what it costs to process it so; and which of
-//! several ways is worth most.
+//! A way to treat blocks, as milling or leaching: what each earns by it and what it costs to process it so; and which
+//! of several ways is worth most.
 
 ghost use Rattle.std.specs.Prelude.{◌≡◌, ◌<◌, ◌≤◌, ◌^◌, ◌*◌, ◌↔◌, ◌<ℤ◌, ◌≤ℤ◌, pos, length, map, position, unsigned_abs, IsTrue, All, Any, MatchBool};
 ghost use Rattle.std.specs.Ordering.{int_eq};

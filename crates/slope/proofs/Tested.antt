@@ -1,7 +1,7 @@
 -- Who rests on whom by the slopes of regions, as a test; and that no fault stands where there are pairs.
 use Rattle.fixed_worth.proofs.Common.{◌≡◌, ◌≢◌, ◌↔◌, ℕ, ◌<◌, ◌≤◌, ℤ, true, IsTrue, List, length, get_or, refl, ap, sym, ◌∙◌, arith, AllPairs, All, Contains, and_parts, and_from, nat_lt, lt-ltb, ltb-true, list_any, list_any-from_Any, Any-from_list_any, Decides-int_eq, get_or_default}
 use Rattle.blocks_file.specs.Denotes.{BlocksView}
-use Rattle.prec_file.specs.Prelude.{RestsView, IsRests}
+use Rattle.prec_file.specs.Prelude.{RestsView}
 use Rattle.prec_file.specs.declared.limits.TheConstants.{MOST_PAIRS}
 use Rattle.slope.specs.Prelude.{AreMoreThan, AreOwnSlopes, IsOwnPair, IsSelected, Offset, is_offset, offset_between, own_offsets, place_of, rests_by_slopes}
 use Rattle.slope.specs.declared.selection.Selection.{Selection}
@@ -53,11 +53,11 @@ pub pairs_tested : (listed : List (List Offset)) (m : BlocksView) (up : Up) (res
 pairs_tested listed m up rests s b p = (λ c. pair_tested listed m up b p (s.only (b, p) c), λ t. s.held (b, p) (tested_pair listed m up b p t))
 
 -- where all that are selected are listed, they aren't more than the list has
-pub not_more : (m : BlocksView) (own : ℕ → List Offset) (up : Up) (selection : Selection) (rests : RestsView) → AreOwnSlopes m own up selection rests → IsRests rests → AreMoreThan MOST_PAIRS (IsSelected selection m own up) → ⊥
-not_more m own up selection rests s is more =
+pub not_more : (m : BlocksView) (own : ℕ → List Offset) (up : Up) (selection : Selection) (rests : RestsView) → AreOwnSlopes m own up selection rests → length rests.pairs ≤ MOST_PAIRS → AreMoreThan MOST_PAIRS (IsSelected selection m own up) → ⊥
+not_more m own up selection rests s most more =
     let held : (i : ℕ) → i < length more.some → Contains rests.pairs (get_or more.some i (0, 0)) = λ i l. s.held (get_or more.some i (0, 0)) (more.all i (0, 0) l) in
     let few = at_most (length rests.pairs) (length more.some) (λ i l. (held i l).0) (λ i l. (held i l).1) (λ i j l h r e.
     let x = held i l in
     let y = held j h in
     more.apart i j (0, 0) r h (sym x.2 ∙ get_or_default rests.pairs x.0 (get_or more.some i (0, 0)) (get_or more.some j (0, 0)) x.1 ∙ ap (λ k. get_or rests.pairs k (get_or more.some j (0, 0))) e ∙ y.2)) in
-    omega (arith, few, more.more, is.few)
+    omega (arith, few, more.more, most)

@@ -1,5 +1,5 @@
--- What only the functions of this crate say to one another: lists as they are gathered, a cone level by level, the index
--- of places, and the pairs block by block.
+-- What only the functions of this crate say to one another: lists as they are gathered, a cone level by level, the
+-- index of places, and the pairs block by block.
 use Rattle.std.specs.Prelude.{◌≡◌, ◌≢◌, ℕ, ◌<◌, ◌≤◌, ◌+◌, ◌-◌, ◌*◌, ◌/◌, Bool, true, false, All, ℤ, pos, ◌-ℤ◌, ◌≤ℤ◌, ◌<ℤ◌, ◌⊎◌, List, [], length, take, AllPairs, Contains, Option, Some, None, Result, Ok, Err, FitsSigned, slice_index_or}
 use Rattle.std.specs.Global.{Vec}
 use Rattle.std.specs.Int.{w32}
@@ -112,7 +112,8 @@ pub record IsRepeatAt (entries : List Entry) (k : ℕ) : Type 0 where
 abbrev pub HaveNoRepeat : List Entry → Type 0
 HaveNoRepeat entries = (k : ℕ) → IsRepeatAt entries k → ⊥
 
--- The blocks of two neighbours that have one key, of which the second is the least that there is, among the first c neighbours.
+-- The blocks of two neighbours that have one key, of which the second is the least that there is, among the first c
+-- neighbours.
 pub record IsEarliestAmong (entries : List Entry) (c : ℕ) (repeat : ℕ × ℕ) : Type 0 where
   pub place : ℕ
   pub stands : IsRepeatAt entries place
@@ -239,8 +240,8 @@ pub record AreFirstSteps (offsets all : List Offset) (whole : Offset) (k : ℕ) 
   pub held : (a : ℕ) → a < k → IsFirstStep offsets all whole a → Contains steps a
   pub only : (a : ℕ) → Contains steps a → IsFirstStep offsets all whole a
 
--- The numbers of the offsets at which a third block may stand that a pair at an offset leads over: none are asked for where
--- every pair is selected, and the first steps to it where the reduced ones are.
+-- The numbers of the offsets at which a third block may stand that a pair at an offset leads over: none are asked for
+-- where every pair is selected, and the first steps to it where the reduced ones are.
 abbrev pub AreStepsTo : Selection → List Offset → List Offset → Offset → List ℕ → Type 0
 AreStepsTo Every offsets all whole steps = steps ≡ []
 AreStepsTo Reduced offsets all whole steps = AreFirstSteps offsets all whole (length offsets) steps

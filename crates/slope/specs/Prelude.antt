@@ -3,4 +3,4 @@ pub use Rattle.slope.specs.Gathering.{AreEntries, AreEntriesInOrder, AreEntriesO
 pub use Rattle.slope.specs.Lists.{AreMoreThan}
 pub use Rattle.slope.specs.Offsets.{AreOffsets, AreOffsetsRising, IsPattern, IsUpward, Offset, OffsetBefore}
 pub use Rattle.slope.specs.Patterns.{ConeFaultStands, IsInCone, IsNear, ListFaultStands, UpwardAt, five_offsets, nine_offsets, square}
-pub use Rattle.slope.specs.Slopes.{AreAllUpward, AreApartBelow, AreOwnSlopes, ArePlaced, AreRegions, AreSlopes, GivePairs, HasFew, HaveAllFew, IsAllUpward, IsClosedBy, IsFirstNotUpward, IsFirstOutside, IsFirstRepeat, IsFirstWide, IsOwnPair, IsRegion, IsSelected, IsSlopePair, LeadsOver, RegionFaultStands, SlopeFaultStands, is_offset, listed_at, offset_between, offsets_in, own_offsets, place_of, region_of, rests, rests_by_slopes, upward, whole_of}
+pub use Rattle.slope.specs.Slopes.{AreAllUpward, AreApartBelow, AreOwnSlopes, ArePlaced, AreRegions, AreRightSlopes, AreSlopes, GivePairs, HasFew, HaveAllFew, IsAllUpward, IsClosedBy, IsFirstNotUpward, IsFirstOutside, IsFirstRepeat, IsFirstWide, IsOwnPair, IsRegion, IsSelected, IsSlopePair, LeadsOver, RegionFaultStands, SlopeFaultStands, is_offset, listed_at, offset_between, offsets_in, own_offsets, place_of, region_of, rests, rests_by_slopes, upward, whole_of}

@@ -72,7 +72,8 @@ pub record AreOwnSlopes (m : BlocksView) (own : ℕ → List Offset) (up : Up) (
 abbrev pub IsSlopePair : BlocksView → List Offset → Up → ℕ × ℕ → Type 0
 IsSlopePair m offsets up pair = IsOwnPair m (λ b. offsets) up pair
 
--- The blocks have places of their own, and the pairs are those of the pattern that are selected, each once and in order.
+-- The blocks have places of their own, and the pairs are those of the pattern that are selected, each once and in
+-- order.
 abbrev pub AreSlopes : BlocksView → List Offset → Up → Selection → RestsView → Type 0
 AreSlopes m offsets up selection rests = AreOwnSlopes m (λ b. offsets) up selection rests
 
@@ -83,7 +84,8 @@ abbrev pub whole_of : ℤ → Option ℕ
 whole_of (pos n) = cond (n % 1000000 == 0) (Some (n / 1000000)) None
 whole_of (negsuc n) = None
 
--- The region of a block, where it has one: the whole number that the first column says, or region 0 where there is no column.
+-- The region of a block, where it has one: the whole number that the first column says, or region 0 where there is no
+-- column.
 abbrev pub region_of : BlocksView → ℕ → Option ℕ
 region_of m b = whole_of (slice_index_or (slice_index_or m.columns 0 []) b (pos 0))
 
@@ -183,10 +185,14 @@ RegionFaultStands listed m up selection region.TooManyRegions = ArePlaced listed
 RegionFaultStands listed m up selection region.TooMany = ArePlaced listed m × AreAllUpward listed × HaveAllFew listed × (length listed ≤ MOST_REGIONS) × AreMoreThan MOST_PAIRS (IsSelected selection m (own_offsets listed m) up)
 RegionFaultStands listed m up selection region.NoMemory = Unit {0}
 
--- The slopes of regions give the selected pairs of a model: no fault of them stands.
-pub record GivePairs (listed : List (List Offset)) (m : BlocksView) (up : Up) (selection : Selection) : Type 0 where
+-- Nothing is wrong with the slopes of regions among the blocks of a model. How many pairs they give is not asked.
+pub record AreRightSlopes (listed : List (List Offset)) (m : BlocksView) : Type 0 where
   pub placed : ArePlaced listed m
   pub upward : AreAllUpward listed
   pub few_offsets : HaveAllFew listed
   pub few_regions : length listed ≤ MOST_REGIONS
+
+-- The slopes of regions give the selected pairs of a model as a list: no fault of them stands.
+pub record GivePairs (listed : List (List Offset)) (m : BlocksView) (up : Up) (selection : Selection) : Type 0 where
+  pub right : AreRightSlopes listed m
   pub few_pairs : AreMoreThan MOST_PAIRS (IsSelected selection m (own_offsets listed m) up) → ⊥

@@ -14,9 +14,9 @@ struct Lookup {
     to: usize,
 }
 
-// The last lookup of each offset from each level. The next one is expected as far on in the index as its block is from the
-// last one's, which is so in a full box whatever the order of the blocks. Nothing rests on a good guess but time, and no
-// contract says what it is.
+// The last lookup of each offset from each level. The next one is expected as far on in the index as its block is from
+// the last one's, which is so in a full box whatever the order of the blocks. Nothing rests on a good guess but time,
+// and no contract says what it is.
 #[derive(Drop)]
 pub(crate) struct Guesses {
     offsets: usize,

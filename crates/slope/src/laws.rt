@@ -1,5 +1,5 @@
-//! Laws of the pairs that a pattern or the slopes of regions give: a block has at most as many predecessors as there are
-//! offsets, and the reduced pairs have the same closures as all pairs.
+//! Laws of the pairs that a pattern or the slopes of regions give: a block has at most as many predecessors as there
+//! are offsets, and the reduced pairs have the same closures as all pairs.
 //!
 //! The functions do nothing. A caller names one where its own proof needs the law.
 
@@ -27,7 +27,8 @@ pub fn slopes_are_narrow(pattern: &Pattern)
     let _ = pattern.offsets();
 }
 
-/// The reduced pairs mean the same as every pair: a set of blocks is closed by those exactly where it is closed by these.
+/// The reduced pairs mean the same as every pair: a set of blocks is closed by those exactly where it is closed by
+/// these.
 pub fn reduced_pairs_close(pattern: &Pattern)
     ensures { (m : BlocksView) (up : declared.Up) (rests : RestsView) (e : ℕ → Bool)
         → AreSlopes m pattern.now up Reduced rests

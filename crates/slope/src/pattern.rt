@@ -37,7 +37,8 @@ pub const MOST_CONE_NUMBER: u32 = 1_000;
 /// The most offsets that a pattern may have.
 pub const MOST_OFFSETS: usize = 4_096;
 
-// Contracts cite the limits by their names, so a wrong number would change code and contract alike: these are the numbers.
+// Contracts cite the limits by their names, so a wrong number would change code and contract alike: these are the
+// numbers.
 fn numbers()
     ensures cone { MOST_CONE_NUMBER ≡ 1000 }
     ensures offsets { MOST_OFFSETS ≡ 4096 }

@@ -12,8 +12,8 @@ use std::alloc::{AllocError, Global};
 // A place as it is compared: level by level, and row by row on a level.
 pub(crate) type PlaceKey = (i32, i32, i32);
 
-// The places of all blocks in order, and the block at each. It is a list and no tree: the block at an offset mostly stands
-// as far from a block in it as the one at that offset stood from the block before.
+// The places of all blocks in order, and the block at each. It is a list and no tree: the block at an offset mostly
+// stands as far from a block in it as the one at that offset stood from the block before.
 #[derive(Drop)]
 pub(crate) struct PlaceIndex {
     pub(crate) keys: Vec<PlaceKey>,

@@ -72,8 +72,8 @@ fn told(keys: &[PlaceKey], key: PlaceKey, at: usize) -> Option<Result<usize, usi
     None
 }
 
-// The place of the key, or the place of the first key after it where it isn't among them. It is looked for near the guess
-// first, and nothing rests on a good guess but time.
+// The place of the key, or the place of the first key after it where it isn't among them. It is looked for near the
+// guess first, and nothing rests on a good guess but time.
 pub(crate) fn found(keys: &[PlaceKey], key: PlaceKey, guess: usize) -> Result<usize, usize>
     requires { AreOffsetsRising keys.now }
     ensures { IsFinding keys.now key result }

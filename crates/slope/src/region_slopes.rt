@@ -102,18 +102,18 @@ fn patterns_of(alloc: Global, listed: &[Vec<(i32, i32, i32)>]) -> Result<Vec<Pat
     Ok(patterns)
 }
 
-/// Who rests on whom in a model of regions: the pairs (b, p) in which p stands from b at an offset of b's own region, by
-/// block alone.
+/// Who rests on whom in a model of regions: the pairs (b, p) in which p stands from b at an offset of b's own region,
+/// by block alone.
 ///
 /// `listed` has the offsets of region 0, 1, and so on. A block's region is the whole number in the first column of the
-/// model, and 0 where the model has none. Otherwise it is as with `predecessors_of`; a pair leads over a third block where
-/// that one is at an offset of b's region, and p at one of that block's own region from it.
+/// model, and 0 where the model has none. Otherwise it is as with `predecessors_of`; a pair leads over a third block
+/// where that one is at an offset of b's region, and p at one of that block's own region from it.
 ///
 /// # Errors
-/// In this order: `SamePlace` where two blocks have one place; `UnknownRegion` with the first block whose region is no whole
-/// number, or not a listed one; `NotUpward` with the first region and the first offset of it whose third number isn't at
-/// least 1; `TooManyOffsets` with the first region of more than 4,096 offsets; `TooManyRegions` for more than 64;
-/// `TooMany` for more than 2^27 of the selected pairs; and `NoMemory`.
+/// In this order: `SamePlace` where two blocks have one place; `UnknownRegion` with the first block whose region is no
+/// whole number, or not a listed one; `NotUpward` with the first region and the first offset of it whose third number
+/// isn't at least 1; `TooManyOffsets` with the first region of more than 4,096 offsets; `TooManyRegions` for more than
+/// 64; `TooMany` for more than 2^27 of the selected pairs; and `NoMemory`.
 pub fn predecessors_by_region(
     alloc: Global,
     model: &BlockModel,

@@ -5,7 +5,7 @@
 pub enum Selection {
     /// Each of them.
     Every,
-    /// Those that lead over no third block, so that others imply the rest: a set of blocks is closed by these exactly where
-    /// it is closed by every pair.
+    /// Those that lead over no third block, so that others imply the rest: a set of blocks is closed by these exactly
+    /// where it is closed by every pair.
     Reduced,
 }

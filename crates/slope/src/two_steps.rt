@@ -180,8 +180,8 @@ fn steps_by(
     Ok(steps)
 }
 
-// For each offset of each region's pattern the numbers of those at which a third block may stand that a pair at it leads
-// over, and the offsets of all patterns, of which one leads on from such a block.
+// For each offset of each region's pattern the numbers of those at which a third block may stand that a pair at it
+// leads over, and the offsets of all patterns, of which one leads on from such a block.
 #[derive(Drop)]
 pub(crate) struct RegionSteps {
     pub(crate) all: Vec<(i64, i64, i64)>,

@@ -5,8 +5,8 @@ use Rattle.sub_mines.specs.Parts.{union_of, difference_of, no_block, every_block
 use Rattle.prec_file.specs.Rests.{numbers_passing}
 use Rattle.sub_mines.specs.Renumbered.{IsKept, IsListed, IsRenumbered, IsImage, number_in}
 
--- Where the best pit is known to lie between two pits, it is the lower one with the best pit of the blocks between them:
--- the second makes the first, and the first gives the second.
+-- Where the best pit is known to lie between two pits, it is the lower one with the best pit of the blocks between
+-- them: the second makes the first, and the first gives the second.
 abbrev pub BestByPart : Type 0
 BestByPart = (mine : Mine) (low high f : ℕ → Bool) → RestsWithin mine → LiesBetween mine low high → IsBest (part mine (difference_of high low)) f → IsBest mine (union_of low f)
 
@@ -33,7 +33,8 @@ KnownByBounds = (mine : Mine) (low high : ℕ → Bool) → IsFloor mine low →
 abbrev pub AlwaysBounded : Type 0
 AlwaysBounded = (mine : Mine) → IsFloor mine no_block × IsCeiling mine every_block
 
--- Where no block is worth less than before, the best pit from before is a floor, and the later one is a ceiling of what was before.
+-- Where no block is worth less than before, the best pit from before is a floor, and the later one is a ceiling of what
+-- was before.
 abbrev pub BestBounds : Type 0
 BestBounds = (mine later : Mine) (e c : ℕ → Bool) → RisesTo mine later → (IsBest mine e → IsFloor later e) × (IsBest later c → IsCeiling mine c)
 

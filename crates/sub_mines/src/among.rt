@@ -73,8 +73,8 @@ fn rows_of(
     Ok(pairs)
 }
 
-/// The pairs of which both blocks are in the list, each block by its place in it. Linear in the blocks and in the pairs of
-/// the blocks that are kept.
+/// The pairs of which both blocks are in the list, each block by its place in it. Linear in the blocks and in the pairs
+/// of the blocks that are kept.
 ///
 /// # Errors
 /// Where memory is refused.

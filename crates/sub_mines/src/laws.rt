@@ -3,7 +3,8 @@
 
 ghost use Rattle.sub_mines.specs.Laws.{BestByPart, PartOfBest, BestWithin, BestOfRest, KnownByBest, KnownByBounds, AlwaysBounded, BestBounds, BestBetween, BestByNumbers, BestBySmallMine, RowBySmallMine, ListsMakeImages, PassingAreKept};
 
-/// Where the best pit is known to lie between two pits, it is the lower one with the best pit of the blocks between them.
+/// Where the best pit is known to lie between two pits, it is the lower one with the best pit of the blocks between
+/// them.
 pub fn best_pit_by_part()
     ensures { BestByPart }
 {}
@@ -38,8 +39,8 @@ pub fn always_bounded()
     ensures { AlwaysBounded }
 {}
 
-/// Where no block is worth less than before, the best pit from before is a floor, and the later one is a ceiling of what
-/// was before.
+/// Where no block is worth less than before, the best pit from before is a floor, and the later one is a ceiling of
+/// what was before.
 pub fn best_pits_are_bounds()
     ensures { BestBounds }
 {}

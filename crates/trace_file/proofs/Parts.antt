@@ -14,7 +14,7 @@ line_cut (b ∷ bs) rest h =
     let e : eqb b 10 ≡ false = not-true (eqb b 10) q.0 in
     rw e (ap (onto_first b) (line_cut bs rest q.1))
 
--- Lines with a line feed behind each are the parts of their text, and behind the last there is nothing.
+-- Lines with a line feed after each are the parts of their text, and after the last there is nothing.
 pub lines_cut : (lines : List (List ℕ)) → list_all is_one_line lines ≡ true → parts 10 (with_line_feeds lines) ≡ lines ++ ([] ∷ [])
 lines_cut [] h = refl
 lines_cut (line ∷ lines) h =
@@ -32,7 +32,7 @@ digits_alone (d ∷ ds) h =
     let e : eqb d 32 ≡ false = digit_no_space d q.0 in
     rw e (ap (onto_first d) (digits_alone ds q.1))
 
--- ---- what stands behind END, and behind a word
+-- ---- what stands after END, and after a word
 
 pub some_behind : (k : ℕ) (bs : List ℕ) → eqb (length bs) 0 ≡ false → Some (Text k) ≡ end_fault k (parts 10 bs)
 some_behind k [] h = absurd (grind (arith, nat_tests))

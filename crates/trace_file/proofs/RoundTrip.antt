@@ -13,7 +13,7 @@ use Rattle.trace_file.proofs.EventLines.{event_read, event_is_one_line, event_is
 abbrev pub Fits : Event → Type 0
 Fits e = e.block < 2 ^ 32
 
--- What stands behind the events of a trace.
+-- What stands after the events of a trace.
 abbrev last_parts : List (List ℕ)
 last_parts = codes "END" ∷ [] ∷ []
 
@@ -56,7 +56,7 @@ written_is_read es few fit =
 
 -- ---- what is read was written so
 
--- Of parts behind k lines, and of the events that they say.
+-- Of parts after k lines, and of the events that they say.
 record AreWritten (k : ℕ) (ps : List (List ℕ)) (es : List Event) : Type 0 where
   spelled : join_with_byte 10 ps ≡ with_line_feeds (map event_line es ++ (codes "END" ∷ []))
   few : k + length es ≤ MOST_EVENTS + 1

@@ -21,7 +21,7 @@ head_by text line behind t e f = ap fault_in e ∙ head_line line (parts 10 behi
 pub no_head : (text line behind : List ℕ) → parts 10 text ≡ line ∷ parts 10 behind → bytes_eq line (codes "PITTRACE 1") ≡ false → fault_of text ≡ Some (Text 1)
 no_head text line behind e f = head_by text line behind false e f
 
--- ---- the lines behind it
+-- ---- the lines after it
 
 -- The events so far, and what is left of the text.
 pub record Going (text left : List ℕ) (es : List Event) : Type 0 where

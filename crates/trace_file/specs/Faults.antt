@@ -15,25 +15,26 @@ pub use Rattle.fixed_worth.specs.FaultText.{at_line}
 abbrev pub events_of : List ℕ → List Event
 events_of text = filter_map event_of (parts 10 text)
 
--- a text that ends before its line END does: what stands behind the last line feed is line k, and only its length is looked at
+-- a text that ends before its line END does: what stands after the last line feed is line k, and only its length is
+-- looked at
 abbrev pub rest_fault : ℕ → List ℕ → TraceFault
 rest_fault k rest = cond (nat_lt LINE_BYTES (length rest)) (Text k) Truncated
 
--- behind END and its line feed nothing may stand; what stands there is line k
+-- after END and its line feed nothing may stand; what stands there is line k
 abbrev pub end_fault : ℕ → List (List ℕ) → Option TraceFault
 end_fault k ([] ∷ []) = None
 end_fault k _ = Some (Text k)
 
--- the fault of line k + 1 as event number k, or else of what stands behind it
+-- the fault of line k + 1 as event number k, or else of what stands after it
 abbrev pub event_fault : ℕ → Option Event → Option TraceFault → Option TraceFault
 event_fault k None behind = Some (Text (k + 1))
 event_fault k (Some e) behind = cond (nat_lt MOST_EVENTS k) (Some TooMany) behind
 
--- the fault of line k + 1, which is END or event number k, or else of what stands behind it
+-- the fault of line k + 1, which is END or event number k, or else of what stands after it
 abbrev pub line_fault : ℕ → List ℕ → List (List ℕ) → Option TraceFault → Option TraceFault
 line_fault k line after behind = cond (bytes_eq line (codes "END")) (end_fault (k + 2) after) (event_fault k (event_of line) behind)
 
--- the first fault behind k lines, of which the first is the head of the trace and the others are events
+-- the first fault after k lines, of which the first is the head of the trace and the others are events
 abbrev pub fault_behind : ℕ → List (List ℕ) → Option TraceFault
 fault_behind k [] = Some Truncated
 fault_behind k (rest ∷ []) = Some (rest_fault (k + 1) rest)

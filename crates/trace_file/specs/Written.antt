@@ -21,6 +21,6 @@ kind_word RaiseLabel = codes "RA"
 abbrev pub event_line : Event → List ℕ
 event_line e = kind_word e.kind ++ (32 ∷ decimal e.block)
 
--- the text of a trace: a line feed behind each line
+-- the text of a trace: a line feed after each line
 abbrev pub trace_text : List Event → List ℕ
 trace_text es = with_line_feeds (codes "PITTRACE 1" ∷ (map event_line es ++ (codes "END" ∷ [])))

@@ -29,7 +29,7 @@ fn rest_fault(number: u64, rest: &[u8]) -> TraceFault
     }
 }
 
-// Nothing may stand behind the last line: what does is the line of this number.
+// Nothing may stand after the last line: what does is the line of this number.
 fn end_fault(number: u64, behind: &[u8]) -> Option<TraceFault>
     ensures { result ≡ spec.end_fault number (parts 10 behind.now) }
 {
@@ -40,7 +40,7 @@ fn end_fault(number: u64, behind: &[u8]) -> Option<TraceFault>
     }
 }
 
-// What stands behind the first line.
+// What stands after the first line.
 fn behind_head<'a>(text: &'a [u8]) -> Result<&'a [u8], TraceFault>
     ensures { MatchResult result
         (λ behind. (fault_of text.now ≡ fault_behind 1 (parts 10 behind.now))
@@ -62,7 +62,7 @@ fn behind_head<'a>(text: &'a [u8]) -> Result<&'a [u8], TraceFault>
 /// The text that is read is the only one of its events: what [`crate::write_trace`] writes.
 ///
 /// # Errors
-/// The fault of the first faulty line: `Text` where it is none of the format, stands behind the last
+/// The fault of the first faulty line: `Text` where it is none of the format, stands after the last
 /// line or has more than 65,536 bytes; `TooMany` where it is an event and 2^24 stand before it;
 /// `Truncated` where all lines are right and END is not among them. `NoMemory` only where memory was
 /// refused, and not where no line says an event.

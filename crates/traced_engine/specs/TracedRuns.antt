@@ -1,4 +1,5 @@
--- How the engine of `solve` ends where it writes the trace of its run too, by the bytes of its inputs and of its two outputs.
+-- How the engine of `solve` ends where it writes the trace of its run too, by the bytes of its inputs and of its two
+-- outputs.
 use Rattle.std.specs.Prelude.{◌≡◌, ℕ, ◌⊎◌, Bool, List, [], ◌∷◌, ◌++◌, codes, Option, Result, Ok, Err}
 use Rattle.std.specs.Io.KnownBytes.{Appends, Keeps}
 use Rattle.fixed_worth.specs.Device.{ReceivedPrefix}
@@ -49,9 +50,9 @@ abbrev pub no_flow_line : AuditEnd → Result (List ℕ) EngineFault
 no_flow_line HistoryFull = Ok history_full_line
 no_flow_line (NoFlow why) = no_line (unsolved_by why)
 
--- The line of an answer without a certificate, and what its history shows: that it has as many events as the limit, or as many as there is
--- room for below the limit, and some block has excess or an operation after it; or that the next step of some block, or the check of the flow,
--- needs a number that doesn't fit.
+-- The line of an answer without a certificate, and what its history shows: that it has as many events as the limit, or
+-- as many as there is room for below the limit, and some block has excess or an operation after it; or that the next
+-- step of some block, or the check of the flow, needs a number that doesn't fit.
 abbrev pub IsNoOfRun : NetView → ℕ → ℕ → List Event → List ℕ → Type 0
 IsNoOfRun net limit room history text =
     (IsCutOffAfter net limit room history × (text ≡ unsettled_line))
@@ -67,8 +68,8 @@ AnswersRun counts name price net limit room history No text = IsNoOfRun net limi
 abbrev pub IsDueAfter : Group → Price → NetView → ℕ → ℕ → List Event → List ℕ → Type 0
 IsDueAfter name price net limit room history text = IsTextOfRun name price net limit room history text ⊎ IsNoOfRun net limit room history text
 
--- What is written of a run to standard output: the answer; or nothing where memory is refused to the check of a settled run; or a prefix of the
--- answer where the device fails.
+-- What is written of a run to standard output: the answer; or nothing where memory is refused to the check of a settled
+-- run; or a prefix of the answer where the device fails.
 abbrev pub TellsRun : Bool → Group → Price → NetView → ℕ → ℕ → List Event → Option (List ℕ) → Option (List ℕ) → Result Verdict EngineFault → Type 0
 TellsRun counts name price net limit room history old new (Ok verdict) = (text : List ℕ) × AnswersRun counts name price net limit room history verdict text × Appends old new text
 TellsRun counts name price net limit room history old new (Err engine.Memory) = ((flow : FlowView) × IsAudit net limit room flow history) × Keeps old new
@@ -99,8 +100,8 @@ TracesNet counts name price net limit room before after old new (Err _) = ⊥
 
 -- ---- the texts of a mine
 
--- The text answers for the mine of the texts, by the run with this history over its net: a certificate is one of the mine, which proves its pit,
--- and names the flow to which the history leads.
+-- The text answers for the mine of the texts, by the run with this history over its net: a certificate is one of the
+-- mine, which proves its pit, and names the flow to which the history leads.
 abbrev pub AnswersMineRun : MineTexts → Group → ℕ → ℕ → List Event → Verdict → List ℕ → Type 0
 AnswersMineRun texts name limit room history Done text =
     IsCertificate texts name text × ((net : NetView) × IsNetBy texts name net × IsCertificateOfRun (counts_by name) name (price_wanted texts) net limit room history text)
@@ -111,7 +112,8 @@ abbrev pub IsUntouchedOr : MineTexts → Group → ℕ → ℕ → Option (List 
 IsUntouchedOr texts name limit room before after old new fault =
     IsUntouched before after old new ⊎ ((net : NetView) × IsNetBy texts name net × TracesNet (counts_by name) name (price_wanted texts) net limit room before after old new (Err fault))
 
--- What is written at a fault: nothing, but where memory is refused after the run, or where the device of the trace or of standard output fails.
+-- What is written at a fault: nothing, but where memory is refused after the run, or where the device of the trace or
+-- of standard output fails.
 abbrev pub TraceAtFault : MineTexts → Group → ℕ → ℕ → Option (List ℕ) → Option (List ℕ) → Option (List ℕ) → Option (List ℕ) → EngineFault → Type 0
 TraceAtFault texts name limit room before after old new engine.Memory = IsUntouchedOr texts name limit room before after old new engine.Memory
 TraceAtFault texts name limit room before after old new engine.Device = IsUntouchedOr texts name limit room before after old new engine.Device

@@ -33,13 +33,13 @@ pub struct RunAsked {
     pub room: u32,
 }
 
-/// Makes a run over a net by the effort's workers, with room for so many events in its history, and writes the history to
-/// the output of the trace. Then writes to `outputs.out` the certificate of the flow that the run leaves, once a check has
-/// accepted it, or a line that says why there is none.
+/// Makes a run over a net by the effort's workers, with room for so many events in its history, and writes the history
+/// to the output of the trace. Then writes to `outputs.out` the certificate of the flow that the run leaves, once a
+/// check has accepted it, or a line that says why there is none.
 ///
 /// # Errors
-/// `Memory`, `Thread` and `Stranger` from the run: nothing was written. `Memory` from the check: the trace is complete. `Device`
-/// where a write fails: there is a prefix of the trace, or the whole trace and a prefix of the answer.
+/// `Memory`, `Thread` and `Stranger` from the run: nothing was written. `Memory` from the check: the trace is complete.
+/// `Device` where a write fails: there is a prefix of the trace, or the whole trace and a prefix of the answer.
 pub fn trace_net<
     G: OrderedGroup,
     R: Threads + Wait + Sync,

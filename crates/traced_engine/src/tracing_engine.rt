@@ -1,4 +1,5 @@
-//! The engine of `solve` with a trace: the bytes of a mine in, the trace of a run and a certificate of its best pit out.
+//! The engine of `solve` with a trace: the bytes of a mine in, the trace of a run and a certificate of its best pit
+//! out.
 
 ghost use Rattle.std.specs.Prelude.{◌≡◌, ◌+◌, ◌-◌, ◌^◌, ◌<◌, IsErrOf};
 ghost use Rattle.certificate_file.specs.ReadBack.{IsPrice};
@@ -21,12 +22,12 @@ use std::sync::Wait;
 use std::thread::Threads;
 use workers::{Audited, Gate, Locked, Shared};
 
-/// Finds the best pit of a mine, where its blocks have prices at the factor that is asked for, by a run of the push-relabel
-/// machine, and writes the trace of the run and the certificate of the pit.
+/// Finds the best pit of a mine, where its blocks have prices at the factor that is asked for, by a run of the
+/// push-relabel machine, and writes the trace of the run and the certificate of the pit.
 ///
-/// The run is that of the effort's workers and steps, whatever its method. Its trace has the whole history: all steps in
-/// their order, at most as many as there is room for and never more than 2^24. It is written right after the run and before anything is
-/// written to `outputs.out`.
+/// The run is that of the effort's workers and steps, whatever its method. Its trace has the whole history: all steps
+/// in their order, at most as many as there is room for and never more than 2^24. It is written right after the run and
+/// before anything is written to `outputs.out`.
 ///
 /// `Done` where it wrote a certificate, as `engines::solve_engine` says; its flow is the one to which a replay of the
 /// trace leads. `No` where it wrote a line that says why there is none:
@@ -36,9 +37,9 @@ use workers::{Audited, Gate, Locked, Shared};
 /// - `REFUSED TooLarge`: a number of the next step, or of the check of the flow, would overflow its type.
 ///
 /// # Errors
-/// The faults of `solve_engine`, in its order. Nothing has been written, with two exceptions: if memory is refused after
-/// the run the trace is complete, and if a write fails there is a prefix of the trace, or the whole trace and a prefix of
-/// the answer.
+/// The faults of `solve_engine`, in its order. Nothing has been written, with two exceptions: if memory is refused
+/// after the run the trace is complete, and if a write fails there is a prefix of the trace, or the whole trace and a
+/// prefix of the answer.
 ///
 /// Each device must have counted fewer than 2^64 - 1 failures, so that one more can be counted.
 pub fn solve_traced_engine<

@@ -30,7 +30,7 @@ zeros_value : (k : ℕ) (ds : List ℕ) → value_of (replicate k 48 ++ ds) ≡ 
 zeros_value zero ds = refl
 zeros_value (suc k) ds = omega (arith, zeros_value k ds)
 
--- The places behind the point, of which six make one.
+-- The places after the point, of which six make one.
 abbrev places : ℕ → List ℕ
 places f = without_trailing_zeros (fixed_width 6 f)
 
@@ -66,7 +66,7 @@ pub printed_all : (q : ℕ → Bool) (z : ℤ) → ((b : ℕ) → is_digit b ≡
 unfolding amount_text
 printed_all q z d p m h = grind (arith, common_steps, (unsigned_abs z / 10 ^ 6), (unsigned_abs z % 10 ^ 6), (all_pass_weaker is_digit q d (decimal (unsigned_abs z / 10 ^ 6)) (decimal_digits (unsigned_abs z / 10 ^ 6) (omega arith))), (fraction_all q (unsigned_abs z % 10 ^ 6) d p (omega arith)), (decimal_digits (unsigned_abs z / 10 ^ 6) (omega arith)), (list_all-append q (sign_text (is_negative z)) (decimal (unsigned_abs z / 10 ^ 6) ++ fraction_text 6 (unsigned_abs z % 10 ^ 6))), (sign_all q (is_negative z) m), (list_all-append q (decimal (unsigned_abs z / 10 ^ 6)) (fraction_text 6 (unsigned_abs z % 10 ^ 6))))
 
--- The parts of a text that is read as a decimal: what stands before the point and behind it, and a minus or none.
+-- The parts of a text that is read as a decimal: what stands before the point and after it, and a minus or none.
 record Parts (text whole fraction : List ℕ) (minus : Bool) : Type 0 where
   mark : has_mark text ≡ false
   exponent : exponent_of text ≡ []

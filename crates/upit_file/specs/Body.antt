@@ -1,4 +1,4 @@
--- The records behind the header: a block and its value each.
+-- The records after the header: a block and its value each.
 use Rattle.std.specs.Prelude.{ℕ, ℤ, pos, ◌&&◌, Bool, cond, List, [], ◌∷◌, ◌++◌, drop, nat_le, Option, Some, None, is_some, unwrap_or, ◌≡◌, true, false, IsTrue}
 use Rattle.std.specs.Option.{option_or}
 use Rattle.std.specs.List.{list_any}
@@ -42,7 +42,7 @@ abbrev pub value_among : List Line → ℕ → ℤ
 value_among [] b = pos 0
 value_among (l ∷ ls) b = cond (is_record_of b (fields_in l)) (value_of_record (fields_in l)) (value_among ls b)
 
--- The fault of the first faulty line, if any, behind these lines.
+-- The fault of the first faulty line, if any, after these lines.
 abbrev pub first_fault : ℕ → List Line → List Line → Option UpitFault
 first_fault n before [] = None
 first_fault n before (l ∷ ls) = option_or (line_fault n (has_record before) l) (first_fault n (before ++ l ∷ []) ls)

@@ -69,7 +69,7 @@ from_second line (key ∷ field ∷ fields) = drop field.place (take (last_end 0
 abbrev pub name_in : List ℕ → List ℕ
 name_in line = from_second line (runs_from 0 line)
 
--- The name behind a line with this key: a NAME record gives it, and any other line leaves it.
+-- The name after a line with this key: a NAME record gives it, and any other line leaves it.
 abbrev pub name_behind : List ℕ → Key → List ℕ → List ℕ
 name_behind name Name line = name_in line
 name_behind name _ line = name

@@ -21,7 +21,7 @@ record_lines b (value ∷ values) = record_line b value ∷ record_lines (b + 1)
 abbrev pub upit_lines : UpitView → List (List ℕ)
 upit_lines u = header_lines u.name (length u.values) ++ (record_lines 0 u.values ++ (codes "EOF" ∷ []))
 
--- The text of a name and values: a line feed behind each line.
+-- The text of a name and values: a line feed after each line.
 abbrev pub upit_text : UpitView → List ℕ
 upit_text u = with_line_feeds (upit_lines u)
 

@@ -57,7 +57,7 @@ pub(crate) struct Header<'a> {
     pub(crate) blocks: u32,
 }
 
-// Reads the header of a text, to behind the line that ends it, for the wanted number of blocks if there is one.
+// Reads the header of a text, to after the line that ends it, for the wanted number of blocks if there is one.
 pub(crate) fn read_header<'a>(
     lines: &mut Lines<'a>,
     wanted: Option<u32>,

@@ -6,8 +6,8 @@ ghost use Rattle.upit_file.specs.Writing.{IsReadBack};
 
 use crate::Upit;
 
-/// What [`crate::write_upit`] writes, [`crate::read_upit`] reads for as many blocks without a fault, as the same name and
-/// values.
+/// What [`crate::write_upit`] writes, [`crate::read_upit`] reads for as many blocks without a fault, as the same name
+/// and values.
 pub fn written_is_read(upit: &Upit)
     ensures { IsReadBack upit.now }
 {

@@ -1,6 +1,6 @@
 //! Reads and writes `.upit` files, which give the blocks of an ultimate-pit problem their values.
 //!
-//! A text has a header, whose records begin with a key such as `NAME` or `NBLOCKS`, and behind the line
+//! A text has a header, whose records begin with a key such as `NAME` or `NBLOCKS`, and after the line
 //! `OBJECTIVE_FUNCTION` a record of a block number and a value each. A block without a record is worth nothing. The
 //! layout is that of the files of MineLib (Espinoza and others 2013).
 //!
@@ -10,7 +10,8 @@
 //! - [`read_upit`] gives exactly the name and the values that `specs/Records` says the text denotes, or its first fault
 //!   with the number of the line. `specs/Header` and `specs/Body` have the two parts of a text.
 //! - [`read_values`] does so for the number of blocks that the text itself declares.
-//! - [`declared_blocks`] gives the number of blocks that the header declares, or its first fault, without taking memory.
+//! - [`declared_blocks`] gives the number of blocks that the header declares, or its first fault, without taking
+//!   memory.
 //! - [`write_upit`] sends exactly the text that `specs/Writing` gives to a name and values, without taking memory, and
 //!   that text is read back as that name and these values ([`laws::written_is_read`]).
 #![tactic(auto)]

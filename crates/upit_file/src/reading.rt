@@ -28,8 +28,8 @@ pub fn declared_blocks(text: &[u8]) -> Result<u32, UpitFault>
 
 /// The name of a text, and the values that it gives to n blocks: that of the block's record, and 0 where it has none.
 ///
-/// Otherwise the first fault of the text, or `NoMemory` where memory is refused. A fault of the header is answered before
-/// memory is asked for.
+/// Otherwise the first fault of the text, or `NoMemory` where memory is refused. A fault of the header is answered
+/// before memory is asked for.
 pub fn read_upit(alloc: Global, text: &[u8], n: u32) -> Result<Upit, UpitFault>
     ensures value { MatchResult result
         (λ upit. (spec.fault_of n text.now ≡ None) × spec.Denotes n text.now upit)

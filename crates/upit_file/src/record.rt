@@ -1,4 +1,4 @@
-//! Reads one line behind the header: gives its block and the block's value, or tells that the line is skipped,
+//! Reads one line after the header: gives its block and the block's value, or tells that the line is skipped,
 //! that it ends the text, or what is wrong with it.
 
 ghost use Rattle.std.specs.Prelude.{◌≡◌, ◌≤◌, false, Some, length, MatchResult};
@@ -11,7 +11,7 @@ ghost use Rattle.upit_file.specs.Body.{IsRecord};
 use crate::upit_fault::UpitFault;
 use fixed_worth::{Fields, LINE_BYTES, Micros, is_remark, whole};
 
-// What a line behind the header is.
+// What a line after the header is.
 #[derive(Clone, Copy)]
 pub(crate) enum Record {
     // No field, or a remark.

@@ -8,7 +8,7 @@ use fixed_worth::{Micros, ShortLine, WrittenNumber, trimmed_fraction};
 
 const MILLION: u64 = 1_000_000;
 
-// The places behind the point at the end of the line, and the point where there are some.
+// The places after the point at the end of the line, and the point where there are some.
 fn push_fraction(line: &mut ShortLine, millionths: u64)
     requires below_one { millionths < 10 ^ 6 }
     requires room { length line.old + 46 ≤ 192 }

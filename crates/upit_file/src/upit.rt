@@ -45,9 +45,9 @@ fn is_name(name: &[u8]) -> bool
 impl Upit {
     /// These values under this name, from block 0 on.
     ///
-    /// `None` where there are more than 2^24 values, or where no text can give the name. A text can give the empty name, and
-    /// each one of at most 60,000 bytes, none of them a line feed, of which the first and the last are no space, tab, colon
-    /// or carriage return.
+    /// `None` where there are more than 2^24 values, or where no text can give the name. A text can give the empty
+    /// name, and each one of at most 60,000 bytes, none of them a line feed, of which the first and the last are no
+    /// space, tab, colon or carriage return.
     pub fn new(name: Vec<u8>, values: Vec<Micros>) -> Option<Upit>
         ensures { SomeIff result (IsTrue (spec.is_upit name.items values.items))
             (record { name = name.items; values = values.items }) }

@@ -93,8 +93,8 @@ fn put_records<W: CountedWrite>(
 
 /// Writes the text of a name and values, a line for every block, as `specs/Writing` has it.
 ///
-/// Takes no memory, and sends the text in large pieces. [`WriteFault::Device`] at the first write that fails: the writer
-/// has then received a prefix of the text.
+/// Takes no memory, and sends the text in large pieces. [`WriteFault::Device`] at the first write that fails: the
+/// writer has then received a prefix of the text.
 ///
 /// `out` must have counted fewer than 2^64 - 1 failures, so that one more can be counted.
 pub fn write_upit<W: CountedWrite>(upit: &Upit, out: &mut W) -> Result<(), WriteFault>

@@ -1,4 +1,5 @@
--- The step of the machine that is next for a block, as its word shows it: what the block's operation and the labels become.
+-- The step of the machine that is next for a block, as its word shows it: what the block's operation and the labels
+-- become.
 use Rattle.fixed_worth.proofs.Common.{◌≡◌, ◌≢◌, ℕ, ◌+◌, ◌<◌, Option, Some, None, List, All, length, get_or, refl, ap, sym, ◌∙◌, arith, get_or-set_other, get_or-set_same, cases_eq, slice_get, option_map, common_steps}
 use Rattle.ordered_group.specs.Amount.{Amount}
 use Rattle.prec_file.specs.Rests.{IsKnown}

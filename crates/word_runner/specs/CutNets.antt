@@ -42,7 +42,8 @@ pub record AreSinks (net : NetView) (ws : List ℕ) (amounts : List Amount) : Ty
 abbrev pub net_with_worths : NetView → List Amount → NetView
 net_with_worths net ws = record { pairs = net.pairs; worths = ws }
 
--- the worths are the net's, but for negative ones, which may be nearer to zero where they take all that the source gives
+-- the worths are the net's, but for negative ones, which may be nearer to zero where they take all that the source
+-- gives
 pub record IsCut (net : NetView) (ws : List Amount) : Type 0 where
   pub size : length ws ≡ count net
   pub positives : (b : ℕ) → b < count net → positive (amount_at ws b) ≡ positive (amount_at net.worths b)

@@ -36,15 +36,16 @@ EndFaultStands cut made busy unsettled.NoMemory = Unit {0}
 abbrev pub SomeRunIsTooLarge : NetView → Type 0
 SomeRunIsTooLarge cut = SomeFlowIsTooLarge cut ⊎ SomeLabelIsTooLarge cut
 
--- why turns over this net left no flow; nothing is said of what is unsettled, since no proof speaks of how far a worker came
+-- why turns over this net left no flow; nothing is said of what is unsettled, since no proof speaks of how far a worker
+-- came
 abbrev pub WordRunFaultStands : NetView → SolveFault → Type 0
 WordRunFaultStands cut solve.Unsettled = Unit {0}
 WordRunFaultStands cut solve.TooLarge = SomeRunIsTooLarge cut
 WordRunFaultStands cut solve.NoMemory = Unit {0}
 WordRunFaultStands cut _ = ⊥
 
--- One or two workers made so many steps over the net cut at its total, at most the limit. They left it quiet, with this flow, which
--- is a greatest one of the net.
+-- One or two workers made so many steps over the net cut at its total, at most the limit. They left it quiet, with this
+-- flow, which is a greatest one of the net.
 pub record IsSolvedBy (net : NetView) (workers limit : ℕ) (flow : FlowView) (steps : ℕ) : Type 0 where
   pub good : ¬ (AreNeitherOneNorTwo workers)
   pub small : AtMost (all_given net) (units 9223372036854775807)

@@ -32,9 +32,10 @@ pub record IsBegun (net : NetView) (workers : ℕ) (w : WordsView) (s : Own) : T
   pub small : AtMost (all_given net) (units 9223372036854775807)
   pub first : IsFirst w 0 1 s
 
--- The words are those of a net that is this one cut at the total, with a seat for each worker before its first step. So the words
--- are opened only where what the source gives is below 2^63 units.
--- By `cut` and `within` together a block of the cut net gives the sink the lesser of what the net's block does and the total.
+-- The words are those of a net that is this one cut at the total, with a seat for each worker before its first step. So
+-- the words are opened only where what the source gives is below 2^63 units.
+-- By `cut` and `within` together a block of the cut net gives the sink the lesser of what the net's block does and the
+-- total.
 pub record AreOpenedSeats (net : NetView) (workers : ℕ) (w : WordsView) (seats : List Own) : Type 0 where
   pub cut : IsCutNet net w.cut
   pub within : AreWithin w.cut w.total

@@ -109,15 +109,15 @@ pub record IsTold (s : Seat (Unit {0}) View) (labels : List ℕ) (block : ℕ) (
 abbrev pub IsTurnOf : ℕ → View → View → Type 0
 IsTurnOf b v w = (x : ℕ) × HasTurned b v x w
 
--- Why a turn is too large: the seat had stopped; or its next step would raise a label too far, and isn't made; or its push brought
--- a word to 2^63 or more.
+-- Why a turn is too large: the seat had stopped; or its next step would raise a label too far, and isn't made; or its
+-- push brought a word to 2^63 or more.
 pub data IsTooLarge (b : ℕ) (v : View) (stopped : Bool) (w : View) : Type 0 where
   had_stopped : stopped ≡ true → w ≡ v → IsTooLarge b v stopped w
   raises : RaisesTooFar v.operation → w ≡ v → IsTooLarge b v stopped w
   pushed : IsTurnOf b v w → w.stopped ≡ true → IsTooLarge b v stopped w
 
--- What a turn answers. A step was made where neither the seat had stopped, nor the step would have raised a label too far, nor its
--- push brought a word to 2^63 or more.
+-- What a turn answers. A step was made where neither the seat had stopped, nor the step would have raised a label too
+-- far, nor its push brought a word to 2^63 or more.
 abbrev pub IsWordTurn : ℕ → View → Operation ℕ → Bool → View → Bool → WordTurn → Type 0
 IsWordTurn b v o stopped w stopped' (Stepped event more) = (stopped ≡ false) × (stopped' ≡ false) × ¬ (RaisesTooFar o) × (w.stopped ≡ false) × IsTurnOf b v w × (event ≡ event_of_operation v.net b v.operation) × (more ≡ not (is_idle w.operation))
 IsWordTurn b v o stopped w stopped' TooLarge = (stopped' ≡ true) × IsTooLarge b v stopped w

@@ -44,8 +44,8 @@ pub record IsMadeBy (net : NetView) (es : List Event) (v : View) : Type 0 where
 abbrev pub IsMade : NetView → List Event → List View → Type 0
 IsMade net es vs = (j : ℕ) (v : View) → get_elem? vs j ≡ some v → IsMadeBy net es v
 
--- The rule that the words keep between any two operations on them: they show the state of some run of the machine over the net, of
--- which each seat sees what its own blocks do and made their steps.
+-- The rule that the words keep between any two operations on them: they show the state of some run of the machine over
+-- the net, of which each seat sees what its own blocks do and made their steps.
 pub record IsRuled (net : NetView) (s : State (Unit {0}) View) : Type 0 where
   pub events : List Event
   pub machine : law.State

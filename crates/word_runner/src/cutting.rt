@@ -1,5 +1,5 @@
-//! The net that the words show: the one handed in, except that no block may give the sink more than the source gives in all. A
-//! worth below that needn't fit a word, and a maximum flow of the cut net is one of the net handed in.
+//! The net that the words show: the one handed in, except that no block may give the sink more than the source gives in
+//! all. A worth below that needn't fit a word, and a maximum flow of the cut net is one of the net handed in.
 
 ghost use Rattle.std.specs.Prelude.{◌≡◌, ◌-ℤ◌, ◌<◌, ◌^◌, pos, map, IfOk};
 ghost use Rattle.machine_law.specs.Conservation.{all_given};

@@ -1,5 +1,5 @@
-//! Where each number lies among the words: what has arrived at the source and at the sink, then for each block its excess, its
-//! label, its source amount and its room at the sink, and for each pair its flow.
+//! Where each number lies among the words: what has arrived at the source and at the sink, then for each block its
+//! excess, its label, its source amount and its room at the sink, and for each pair its flow.
 
 ghost use Rattle.std.specs.Prelude.{◌≡◌, ◌<◌, length};
 ghost use Rattle.machine_law.specs.Residual.{IsEnd};

@@ -179,13 +179,13 @@ fn seats_of(
 }
 
 impl Words {
-    /// The words of a net, at the opening of the machine, with a seat for each of one or two workers: seat w serves the blocks b
-    /// with b mod workers = w. Memory: 8 bytes for each of two words, four a block and one a pair, 8 bytes a block and seat, and a
-    /// copy of the net.
+    /// The words of a net, at the opening of the machine, with a seat for each of one or two workers: seat w serves the
+    /// blocks b with b mod workers = w. Memory: 8 bytes for each of two words, four a block and one a pair, 8 bytes a
+    /// block and seat, and a copy of the net.
     ///
     /// # Errors
-    /// `BadWorkers` where there are neither one nor two. Then `TooLarge` where the positive worths sum to 2^63 units or more.
-    /// `NoMemory` where memory was refused.
+    /// `BadWorkers` where there are neither one nor two. Then `TooLarge` where the positive worths sum to 2^63 units or
+    /// more. `NoMemory` where memory was refused.
     pub fn open(
         alloc: Global,
         net: &Net<Scaled>,

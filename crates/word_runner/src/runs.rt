@@ -83,19 +83,19 @@ fn solved_by_two(
     }
 }
 
-/// Runs the machine with one or two workers without a lock, each step one operation on one word that they share, and returns the
-/// flow once no block has excess or an operation: a maximum flow of the net. One worker is the calling thread, two are threads of
-/// their own.
+/// Runs the machine with one or two workers without a lock, each step one operation on one word that they share, and
+/// returns the flow once no block has excess or an operation: a maximum flow of the net. One worker is the calling
+/// thread, two are threads of their own.
 ///
-/// Each worker takes at most `steps / workers` turns, and passes the gate before each. A turn is one step, or one load of an
-/// arrival. After a round of its blocks in which none had excess, a worker loads both arrivals, and ends if all has arrived.
-/// `steps` of the result are the steps that were made. The method is that of `workers::solve`.
+/// Each worker takes at most `steps / workers` turns, and passes the gate before each. A turn is one step, or one load
+/// of an arrival. After a round of its blocks in which none had excess, a worker loads both arrivals, and ends if all
+/// has arrived. `steps` of the result are the steps that were made. The method is that of `workers::solve`.
 ///
 /// # Errors
-/// `BadWorkers` where there are neither one nor two. `TooLarge` where the positive worths sum to 2^63 units or more, or where the
-/// flow of a pair came to 2^63 in a step, or a label would have. `Unsettled` where the turns were over before all had arrived.
-/// `NoMemory` where memory was refused, `NoThread` where a worker couldn't be started; the one that was has ended. `StrangerNet`
-/// never.
+/// `BadWorkers` where there are neither one nor two. `TooLarge` where the positive worths sum to 2^63 units or more, or
+/// where the flow of a pair came to 2^63 in a step, or a label would have. `Unsettled` where the turns were over before
+/// all had arrived. `NoMemory` where memory was refused, `NoThread` where a worker couldn't be started; the one that
+/// was has ended. `StrangerNet` never.
 pub fn solve_words<R: Threads + Wait + Sync, T: Gate>(
     rt: &R,
     alloc: Global,

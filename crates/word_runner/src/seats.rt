@@ -20,7 +20,8 @@ use closure_net::PortKind;
 use machine_law::{Event, Operation};
 use std::marker::Model;
 
-/// A worker's seat at the words of a net. It serves the blocks b with b mod workers = its number, one operation at a time.
+/// A worker's seat at the words of a net. It serves the blocks b with b mod workers = its number, one operation at a
+/// time.
 #[derive(Drop)]
 pub struct WordSeat {
     pub(crate) place: TableSeat,
@@ -105,11 +106,11 @@ fn look_up(words: &SharedWords, place: &mut TableSeat, at: usize) -> u64
 }
 
 impl WordSeat {
-    /// Makes the step that is next for block b, by one operation on one word. The seat is one of these words, block b is one of
-    /// its blocks, and it has no operation of another one.
+    /// Makes the step that is next for block b, by one operation on one word. The seat is one of these words, block b
+    /// is one of its blocks, and it has no operation of another one.
     ///
-    /// `TooLarge` where the flow of a pair came to 2^63 units by the step, or a label would come to 2^63 by it; then the step isn't
-    /// made. From then on the seat makes no steps and answers the same.
+    /// `TooLarge` where the flow of a pair came to 2^63 units by the step, or a label would come to 2^63 by it; then
+    /// the step isn't made. From then on the seat makes no steps and answers the same.
     pub fn turn(&mut self, words: &Words, b: u32) -> WordTurn
         requires words { IsSeat words.now.shared self.old.place }
         requires block { (b < length words.now.cut.worths) × IsSeatsOwn self.old.place.me.0 b
@@ -161,8 +162,8 @@ impl WordSeat {
         look_up(&words.table.shared, &mut self.place, at)
     }
 
-    /// Loads what has arrived at the source, and then what has arrived at the sink: do they sum to the total? The seat is one of
-    /// these words. No step is made.
+    /// Loads what has arrived at the source, and then what has arrived at the sink: do they sum to the total? The seat
+    /// is one of these words. No step is made.
     pub fn arrived(&mut self, words: &Words) -> bool
         requires words { IsSeat words.now.shared self.old.place }
         ensures seat { IsSeat words.now.shared self.new.place }

@@ -106,8 +106,8 @@ fn step_at(words: &Words, round: Round, _number: u32, _turn: u64) -> Result<Roun
     }
 }
 
-// A load of an arrival, after a round in which no block had excess: first of the source's, and then of the sink's, after which
-// the run ends where they sum to the total, and else the next round begins after a pause.
+// A load of an arrival, after a round in which no block had excess: first of the source's, and then of the sink's,
+// after which the run ends where they sum to the total, and else the next round begins after a pause.
 fn look_at(words: &Words, round: Round, number: u32, _turn: u64) -> Result<Round, Served>
     requires round { IsRound words.now number round.seat round.at round.steps _turn }
     requires over { (length words.now.cut.worths ≤ round.at) × (number < words.now.workers) }
@@ -200,10 +200,10 @@ fn next_round(words: &Words, round: Round, number: u32, _turn: u64) -> Round
     }
 }
 
-/// Takes at most so many turns of the seat of this number, and passes the gate before each. It goes round its blocks, ascending,
-/// with one operation for each. After a round in which no block had excess it loads both arrivals, which are two turns, and ends
-/// where they sum to the total; where they don't, it lets the other worker run, and longer the more often it found nothing. It ends
-/// also where a turn is too large, which it tells the other worker by the flag.
+/// Takes at most so many turns of the seat of this number, and passes the gate before each. It goes round its blocks,
+/// ascending, with one operation for each. After a round in which no block had excess it loads both arrivals, which are
+/// two turns, and ends where they sum to the total; where they don't, it lets the other worker run, and longer the more
+/// often it found nothing. It ends also where a turn is too large, which it tells the other worker by the flag.
 pub fn serve<T: Gate>(
     words: &Words,
     stop: &AtomicBool,

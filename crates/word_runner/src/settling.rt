@@ -127,12 +127,12 @@ pub fn settle_two(
 }
 
 impl Words {
-    /// The flow, where no seat has an operation and all that the source gave has arrived: a greatest flow of the net that was
-    /// handed in. These are all seats of the words.
+    /// The flow, where no seat has an operation and all that the source gave has arrived: a greatest flow of the net
+    /// that was handed in. These are all seats of the words.
     ///
     /// # Errors
-    /// `Unsettled` where a seat has an operation, or not all has arrived, so that some block has excess. `NoMemory` where memory
-    /// was refused.
+    /// `Unsettled` where a seat has an operation, or not all has arrived, so that some block has excess. `NoMemory`
+    /// where memory was refused.
     pub fn settle(self, alloc: Global, seats: Vec<WordSeat>) -> Result<Flow<Scaled>, SettleFault>
         requires { AreSeats self seats.items }
         ensures { MatchResult result

@@ -27,8 +27,8 @@ impl<'a> Promise<Served> for Worker<'a> {
     ghost kept_by = { λ p r. SeatHasServed p.words.now p.number 2 p.turns r.seat r.steps };
 }
 
-/// Lets two workers take their turns, each in a thread of its own, and hands their seats back. None where a thread couldn't be
-/// started; the one that was has ended.
+/// Lets two workers take their turns, each in a thread of its own, and hands their seats back. None where a thread
+/// couldn't be started; the one that was has ended.
 pub fn serve_both<R: Threads + Wait + Sync, T: Gate>(
     rt: &R,
     words: &Words,

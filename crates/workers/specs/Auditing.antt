@@ -1,5 +1,6 @@
--- What a whole run by workers answers whose steps are all written down. `AreTurnsTo` says of events that they are a run from the opening
--- state of a net in which no ReadExcess sees zero and after each step all numbers fit; such a run leads to one state alone.
+-- What a whole run by workers answers whose steps are all written down. `AreTurnsTo` says of events that they are a run
+-- from the opening state of a net in which no ReadExcess sees zero and after each step all numbers fit; such a run
+-- leads to one state alone.
 use Rattle.std.specs.Prelude.{◌≡◌, ℕ, ◌<◌, ◌≤◌, min, Bool, true, false, List, [], length}
 use Rattle.closure_net.specs.Network.{NetView, FlowView}
 use Rattle.machine_law.specs.declared.events.Event.{Event}
@@ -27,7 +28,8 @@ pub record IsHistory (net : NetView) (limit room : ℕ) (history : List Event) (
 abbrev pub IsSomeHistory : NetView → ℕ → ℕ → List Event → Type 0
 IsSomeHistory net limit room history = (state : State) × IsHistory net limit room history state
 
--- The history is a run whose replay leads to a quiet state, and the flow is that state's: the run that it tells of has settled with it.
+-- The history is a run whose replay leads to a quiet state, and the flow is that state's: the run that it tells of has
+-- settled with it.
 pub record IsAudit (net : NetView) (limit room : ℕ) (flow : FlowView) (history : List Event) : Type 0 where
   pub state : State
   pub is_history : IsHistory net limit room history state
@@ -47,7 +49,8 @@ pub record OverflowsAfter (net : NetView) (limit room : ℕ) (history : List Eve
   pub is_history : IsHistory net limit room history state
   pub next : SomeNextOverflows net state
 
--- the history has exactly as many events as there is room for, fewer than the limit allows, and leads to a state that isn't quiet
+-- the history has exactly as many events as there is room for, fewer than the limit allows, and leads to a state that
+-- isn't quiet
 pub record FillsItsRoom (net : NetView) (limit room : ℕ) (history : List Event) : Type 0 where
   pub state : State
   pub is_history : IsHistory net limit room history state
@@ -62,15 +65,16 @@ pub record IsAuditLeft (net : NetView) (limit room : ℕ) (audit : AuditView) : 
   pub within : (shown_state audit.board).steps ≤ most_steps limit
   pub room_is : audit.room ≡ most_room room
 
--- Why there is no such board. The history is without an event, but where a worker couldn't be started: then it is a run of the others,
--- and nothing is said of how far it goes.
+-- Why there is no such board. The history is without an event, but where a worker couldn't be started: then it is a run
+-- of the others, and nothing is said of how far it goes.
 abbrev pub IsAuditLoss : NetView → ℕ → ℕ → AuditEnd → List Event → Type 0
 IsAuditLoss net limit room (NoFlow StrangerNet) history = history ≡ []
 IsAuditLoss net limit room (NoFlow NoMemory) history = history ≡ []
 IsAuditLoss net limit room (NoFlow NoThread) history = IsSomeHistory net limit room history
 IsAuditLoss net limit room _ history = ⊥
 
--- why the board of a run is lost that comes back as another's: where all workers were started nothing else is known to be wrong
+-- why the board of a run is lost that comes back as another's: where all workers were started nothing else is known to
+-- be wrong
 abbrev pub lost_by : Bool → SolveFault
 lost_by true = StrangerNet
 lost_by false = NoThread
@@ -82,7 +86,8 @@ AuditRunFaultStands net limit room (NoFlow TooLarge) history = OverflowsAfter ne
 AuditRunFaultStands net limit room HistoryFull history = FillsItsRoom net limit room history
 AuditRunFaultStands net limit room _ history = ⊥
 
--- Why a run gives no flow, and what its history is. Nothing is said of where a board comes back as another's, of memory, or of threads.
+-- Why a run gives no flow, and what its history is. Nothing is said of where a board comes back as another's, of
+-- memory, or of threads.
 abbrev pub AuditFaultStands : NetView → ℕ → ℕ → ℕ → AuditEnd → List Event → Type 0
 AuditFaultStands net workers limit room (NoFlow BadWorkers) history = AreBadWorkers workers × (history ≡ [])
 AuditFaultStands net workers limit room (NoFlow Unsettled) history = IsCutOffAfter net limit room history

@@ -9,8 +9,8 @@ use Rattle.boards.specs.Runs.{SomeNextOverflows, IsMadeByTurns}
 abbrev pub most_steps : ℕ → ℕ
 most_steps limit = min limit MOST_STEPS
 
--- Turns end a run over the net quiet after so many steps, at most those of the limit. It leaves this flow, which is a greatest one,
--- and what the source reaches in what the flow leaves is closed and tight.
+-- Turns end a run over the net quiet after so many steps, at most those of the limit. It leaves this flow, which is a
+-- greatest one, and what the source reaches in what the flow leaves is closed and tight.
 pub record Settles (net : NetView) (limit : ℕ) (flow : FlowView) (steps : ℕ) : Type 0 where
   pub state : State
   pub made : IsMadeByTurns net state

@@ -29,8 +29,8 @@ RunFaultStands net limit Unsettled = IsCutOff net limit
 RunFaultStands net limit TooLarge = SomeStepOverflows net limit
 RunFaultStands net limit _ = ⊥
 
--- Why a run gives no flow. What a thread does with the board that it is lent can't be said, so the board that comes back is compared
--- with the net; nothing is said of where it is another, of memory, or of threads.
+-- Why a run gives no flow. What a thread does with the board that it is lent can't be said, so the board that comes
+-- back is compared with the net; nothing is said of where it is another, of memory, or of threads.
 abbrev pub SolveFaultStands : NetView → ℕ → ℕ → SolveFault → Type 0
 SolveFaultStands net workers limit BadWorkers = AreBadWorkers workers
 SolveFaultStands net workers limit Unsettled = IsCutOff net limit

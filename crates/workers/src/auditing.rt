@@ -74,7 +74,8 @@ impl AuditFault {
 /// - `Unsettled` where the history has exactly as many events as the limit allows, `HistoryFull` where it
 ///   has as many as there is room for, below the limit; some block has excess or an operation after it.
 /// - `TooLarge` where a number of the state after the next step would overflow its type.
-/// - `NoThread` with the steps that were made, of which no clause says that they are all; `BadWorkers`, `NoMemory` and `StrangerNet` with none.
+/// - `NoThread` with the steps that were made, of which no clause says that they are all; `BadWorkers`, `NoMemory` and
+///   `StrangerNet` with none.
 pub fn solve_audited<G: OrderedGroup, R: Threads + Wait + Sync, T: Gate>(
     rt: &R,
     alloc: Global,

@@ -5,8 +5,9 @@ use std::thread;
 // The most that it yields at once. A yield takes less than a microsecond where nobody else wants the processor.
 const MOST_YIELDS: u32 = 1_024;
 
-/// A wait of a worker that has found nothing to do, while others are at work. It gives its processor away, and each time twice as
-/// often as the time before: so a worker that waits long takes few turns, and one that waits shortly is soon back.
+/// A wait of a worker that has found nothing to do, while others are at work. It gives its processor away, and each
+/// time twice as often as the time before: so a worker that waits long takes few turns, and one that waits shortly is
+/// soon back.
 #[derive(Clone, Copy)]
 pub struct Pause {
     yields: u32,

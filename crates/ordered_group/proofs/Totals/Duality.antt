@@ -25,7 +25,8 @@ module _ (n m : ℕ) (from to : ℕ → ℕ) (w s t f : ℕ → Amount)
     (balanced : (b : ℕ) → b < n → plus (s b) (at_end to f m b) ≡ plus (t b) (at_end from f m b))
     (e : ℕ → Bool)
     (closed : (k : ℕ) → k < m → e (from k) ≡ true → e (to k) ≡ true) where
-  -- a block of the set is worth at most what its source could still give and what leaves it for other blocks, less what enters
+  -- a block of the set is worth at most what its source could still give and what leaves it for other blocks, less what
+  -- enters
   block_bound : (b : ℕ) → b < n → (v : Bool) → AtMost (plus (where_so v (w b)) (where_so v (at_end to f m b))) (plus (minus (positive (w b)) (s b)) (where_so v (at_end from f m b)))
   block_bound b h false = let c = source_ok b h in record { worths = omega (arith, ints, c); counts = λ k. omega (arith, ints, c, k) }
   block_bound b h true =

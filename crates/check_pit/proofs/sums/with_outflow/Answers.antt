@@ -18,10 +18,10 @@ module _ (ps : List (ℕ × ℕ)) (rising : IsRising ps) (b i first : ℕ) (abov
   below = let k = (passing_at (λ k. from_at ps k == b) (length ps) i inside).below in omega (arith, own, k)
 
 pub overflow_cast-i : goal.overflow_cast-i
-overflow_cast-i g c = omega (arith, below _ c.len-n.ensures.all.rising _ c.loop-i.i _ _ c.above-count.ensures c.first-first.ensures (omega arith), c.len-n.ensures.all.few)
+overflow_cast-i g c = omega (arith, below _ c.len-n.ensures.all.rising _ c.loop-i.i _ _ c.above-count.ensures c.first-first.ensures (omega arith), c.len-n.ensures.few)
 
 pub overflow_add-first : goal.overflow_add-first
-overflow_add-first g c = omega (arith, below _ c.len-n.ensures.all.rising _ c.loop-i.i _ _ c.above-count.ensures c.first-first.ensures (omega arith), c.len-n.ensures.all.few)
+overflow_add-first g c = omega (arith, below _ c.len-n.ensures.all.rising _ c.loop-i.i _ _ c.above-count.ensures c.first-first.ensures (omega arith), c.len-n.ensures.few)
 
 pub at-requires-after_bounds : goal.at-requires-after_bounds
 at-requires-after_bounds g c = omega (arith, below _ c.len-n.ensures.all.rising _ c.loop-i.i _ _ c.above-count.ensures c.first-first.ensures (omega arith), c.requires.lengths)

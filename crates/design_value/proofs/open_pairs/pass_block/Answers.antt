@@ -31,7 +31,7 @@ pass_pair-requires c =
     let inside : c.loop-i.i < length (above_of v.pairs c.args.b) = omega (arith, ap length c.above-row.ensures) in
     let n = next_pair v r c.args.b c.loop-i.i inside in
     let few = few_lead (marked_in c.args.marks.now) v.pairs (first_of v.pairs c.args.b + c.loop-i.i) c.loop-i.leading.count c.loop-i.leading.first.items (omega (arith, n.0)) c.loop-i.invariant in
-    omega (arith, few, n.0, r.few)
+    omega (arith, few, n.0, c.len-blocks.ensures.few)
 
 pub returns : goal.returns
 returns c =

@@ -1,7 +1,6 @@
-use Rattle.std.proofs.Common.{◌≤◌, length}
-use Rattle.prec_file.specs.declared.limits.TheConstants.{MOST_PAIRS}
+use Rattle.std.proofs.Common.{◌≤◌, ◌^◌, length}
 use Rattle.places.specs.Prelude.{gridded, pairs_below}
 use Rattle.held_pairs.proofs.pairs.has_few_ways.Given as goal
 
 abbrev pub invariant-loop-b : goal.invariant-loop-b
-invariant-loop-b l = (length (pairs_below (gridded l.grid).rests (gridded l.grid).blocks l.b) ≤ l.total) × (l.total ≤ MOST_PAIRS)
+invariant-loop-b l = (length (pairs_below (gridded l.grid).rests (gridded l.grid).blocks l.b) ≤ l.total) × (l.total ≤ 2 ^ 36)

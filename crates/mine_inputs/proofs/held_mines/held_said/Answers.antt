@@ -1,5 +1,5 @@
 use Rattle.fixed_worth.proofs.Common.{◌≡◌, List, ap, ◌∙◌, subst}
-use Rattle.slope.specs.Prelude.{AreOwnSlopes, GivePairs, Offset, own_offsets}
+use Rattle.slope.specs.Prelude.{AreOwnSlopes, AreRightSlopes, Offset, own_offsets}
 use Rattle.slope.specs.declared.selection.Selection.TheVariants.{Every}
 use Rattle.slope.specs.declared.up.Up.{Up}
 use Rattle.slope.proofs.Tested.{pairs_tested}
@@ -14,5 +14,5 @@ returns-in-Ok-clause-pairs c =
     let slopes = c.slopes_of-slopes.ensures in
     let up : c.up_of-up.result ≡ up_said said = c.up_of-up.ensures ∙ ap up_by c.up.ensures in
     let made = subst (λ (u : Up). AreOwnSlopes m (own_offsets (slopes_said said) m) u Every found) up (subst (λ (ls : List (List Offset)). AreOwnSlopes m (own_offsets ls m) c.up_of-up.result Every found) slopes c.in-Ok.ensures.made) in
-    let right = subst (λ (u : Up). GivePairs (slopes_said said) m u Every) up (subst (λ (ls : List (List Offset)). GivePairs ls m c.up_of-up.result Every) slopes c.in-Ok.ensures.right) in
+    let right = subst (λ (ls : List (List Offset)). AreRightSlopes ls m) slopes c.in-Ok.ensures.right in
     (made.blocks, right, record { rising = made.rising; same = pairs_tested (slopes_said said) m (up_said said) found made })

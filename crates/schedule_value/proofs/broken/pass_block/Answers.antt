@@ -32,7 +32,7 @@ pass_pair-requires c =
     let inside : c.loop-i.i < length (above_of v.pairs c.args.b) = omega (arith, ap length c.above-row.ensures) in
     let n = next_pair v r c.args.b c.loop-i.i inside in
     let few = few_break c.args.lag (period_by c.args.schedule.now) c.args.periods v.pairs (first_of v.pairs c.args.b + c.loop-i.i) c.loop-i.broken.count c.loop-i.broken.first.items (omega (arith, n.0)) c.loop-i.invariant in
-    omega (arith, few, n.0, r.few)
+    omega (arith, few, n.0, c.len-blocks.ensures.few)
 
 pub returns : goal.returns
 returns c =

@@ -46,11 +46,13 @@ returns-in-Ok-pairs_of-clause-right c =
     let made = slopes_are m (own_offsets lists m) c.args.up c.args.selection found (places_apart _ _ _ c.in-Ok.ensures) c.in-Ok-pairs_of.ensures.0 c.len.ensures.all.rising
     (collected_alike m _ (own_offsets lists m) c.args.up c.args.selection found.pairs (own_to lists ps m of) (own_back lists ps m of) c.in-Ok-pairs_of.ensures.1) in
     record {
-      placed = record { apart = places_apart _ _ _ c.in-Ok.ensures; regions = known.0 };
-      upward = known.1;
-      few_offsets = known.2;
-      few_regions = omega (arith, known.3, length-map c.args.listed.now (λ (w : Vec (ℤ × ℤ × ℤ)). w.items));
-      few_pairs = not_more m (own_offsets lists m) c.args.up c.args.selection found made c.len.ensures.all;
+      right = record {
+        placed = record { apart = places_apart _ _ _ c.in-Ok.ensures; regions = known.0 };
+        upward = known.1;
+        few_offsets = known.2;
+        few_regions = omega (arith, known.3, length-map c.args.listed.now (λ (w : Vec (ℤ × ℤ × ℤ)). w.items));
+      };
+      few_pairs = not_more m (own_offsets lists m) c.args.up c.args.selection found made c.len.ensures.few;
     }
 
 pub returns-clause-made : goal.returns-clause-made

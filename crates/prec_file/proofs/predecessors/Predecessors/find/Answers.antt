@@ -6,11 +6,11 @@ use Rattle.prec_file.proofs.Finding.{hit, miss}
 use Rattle.prec_file.proofs.predecessors.Predecessors.find.Goals as goal
 use Rattle.prec_file.proofs.predecessors.Predecessors.find.Goals.{In_ok-i}
 
--- the place that was found, behind b's first pair
+-- the place that was found, after b's first pair
 hit_at : (c : In_ok-i) → (c.index-first.result.now + c.in_ok-i.i < length c.args.self.now.pairs) × (get_or c.args.self.now.pairs (c.index-first.result.now + c.in_ok-i.i) (0, 0) ≡ (c.args.b, c.args.p)) × (length c.args.self.now.pairs ≤ MOST_PAIRS)
 hit_at c =
     let up = subst (λ (v : RestsView). IsRising v.pairs) c.self.view_is c.self.invariant.rests.rising in
-    let few = subst (λ (v : RestsView). length v.pairs ≤ MOST_PAIRS) c.self.view_is c.self.invariant.rests.few in
+    let few = subst (λ (v : RestsView). length v.pairs ≤ MOST_PAIRS) c.self.view_is c.self.invariant.few in
     let starts = c.self.invariant.firsts in
     let known : c.args.b < c.self.inside.blocks = omega (arith, c.requires, ap (λ v. v.blocks) c.self.view_is) in
     let first : c.index-first.result.now ≡ first_of c.args.self.now.pairs c.args.b =

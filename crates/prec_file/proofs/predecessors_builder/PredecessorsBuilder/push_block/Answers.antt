@@ -36,4 +36,4 @@ returns c =
     let told = pushed_told n next ps row firsts predecessors c.self.invariant within few_row same.rising c.sorted_apart-added.ensures.apart own begun listed c.len.result f p count in
     let rows = pushed_rows n next ps row firsts predecessors c.self.invariant within few_row same.rising c.sorted_apart-added.ensures.apart own begun listed c.len.result f p count in
     let new : RowsView = record { blocks = n; next = next + 1; pairs = pairs_by begun listed } in
-    subst (λ (v : RowsView). IsRowAdded v new c.args.pairs.items row) c.self.view_is (record { blocks = refl; next = refl; pairs = told; own = same; fewer = c.sorted_apart-added.ensures.fewer; rests = rows.rests })
+    subst (λ (v : RowsView). IsRowAdded v new c.args.pairs.items row) c.self.view_is (record { blocks = refl; next = refl; pairs = told; own = same; fewer = c.sorted_apart-added.ensures.fewer; few = rows.few; rests = rows.rests })

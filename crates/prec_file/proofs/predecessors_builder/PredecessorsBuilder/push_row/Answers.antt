@@ -62,5 +62,5 @@ returns c =
     let rows = pushed_rows n b ps row c.self.inside.firsts.items c.self.inside.predecessors.items c.self.invariant (within c) (few c) rising apart (own c)
     c.push_reserved.new.self.items c.extend_from_slice.new.self.items c.len-behind.result (begun c) (listed c) (counted c) in
     let new : RowsView = record { blocks = n; next = b + 1; pairs = pairs_by c.push_reserved.new.self.items c.extend_from_slice.new.self.items } in
-    let added : IsRowAdded (record { blocks = n; next = b; pairs = ps }) new row row = record { blocks = refl; next = refl; pairs = told; own = own_pairs row rising apart; fewer = omega arith; rests = rows.rests } in
+    let added : IsRowAdded (record { blocks = n; next = b; pairs = ps }) new row row = record { blocks = refl; next = refl; pairs = told; own = own_pairs row rising apart; fewer = omega arith; few = rows.few; rests = rows.rests } in
     subst (λ (v : RowsView). (x : List (ℕ × ℕ)) × IsRowAdded v new (map {B = ℕ × ℕ} (λ p. (v.next, p)) c.args.row.now) x) c.self.view_is (row, added)
