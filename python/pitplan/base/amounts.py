@@ -9,7 +9,7 @@ import numpy as np
 import numpy.typing as npt
 
 from .arrays import Bools, Floats, Ints
-from .errors import PlanError
+from .errors import PlanError, Remedy
 
 
 THOUSAND = 1000  # a factor is in thousandths
@@ -40,7 +40,7 @@ def rounding_of(rounding: float | str | Decimal) -> Decimal:
                 f"rounding = {rounding} has to be above 0 and at most {MOST:,}, with at most six"
                 " decimals"
             ),
-            try_this="rounding = 1",
+            try_this=Remedy(("economics", "rounding"), 1),
         )
     return found
 
@@ -207,7 +207,9 @@ class Priced:
                     f"an amount of {largest / THOUSAND * float(self.rounding):g} for one block is"
                     f" too large to count with in units of {self.rounding:f}"
                 ),
-                try_this=f"rounding = {larger.normalize():f} in [economics]",
+                try_this=Remedy(
+                    ("economics", "rounding"), int(larger) if larger >= 1 else float(larger)
+                ),
             )
 
     def of_part(self, part: slice, factor: int) -> Ints:

@@ -26,8 +26,8 @@ class Remedy:
     key : KeyPath
         The section and the key that are set.
     value : Any
-        What a TOML file has there; for a list that may have other words already, what is added to
-        it (`adds`).
+        What a TOML file has there; None takes the key out. For a list that may have other words
+        already, what is added to it (`adds`).
     when : str
         The condition under which it is right, as "if that stands for ..": what a person has to
         judge. "" where there is none.
@@ -36,6 +36,8 @@ class Remedy:
         Of a list that is added to: the words that it has already, which the text keeps.
     other : Any
         What is right where `when` doesn't hold, if that is known: else None.
+    also : tuple of Remedy
+        Further keys of the same section that `value` needs, and `other` doesn't.
     """
 
     key: KeyPath
@@ -44,13 +46,16 @@ class Remedy:
     adds: bool = False
     has: tuple[str, ...] = ()
     other: Any = None
+    also: tuple[Remedy, ...] = ()
 
     def as_data(self) -> dict[str, Any]:
         """It as JSON has it."""
         fields = {"value": self.value, "when": self.when, "adds": self.adds, "other": self.other}
-        return {"key": list(self.key), **fields}
+        return {"key": list(self.key), **fields, "also": [each.as_data() for each in self.also]}
 
     def __str__(self) -> str:
+        if self.value is None:
+            return f"take {self.key[-1]} out of [{self.key[0]}]"
         value = list(dict.fromkeys([*self.has, *self.value])) if self.adds else self.value
         return f"{self.key[-1]} = {spelled(value)} in [{self.key[0]}]" + (
             f", {self.when}" if self.when else ""
@@ -140,6 +145,11 @@ class PlanError(Exception):
     def with_places(self, places: Iterable[str]) -> PlanError:
         """The same error, with the places of the model that it is of."""
         self.places = tuple(places)
+        return self
+
+    def with_remedy(self, remedy: Remedy | None) -> PlanError:
+        """The same error, with a change that `try_this` tells in words of its own."""
+        self.remedy = remedy
         return self
 
     def with_swap(self, swap: tuple[str, str] | None) -> PlanError:

@@ -17,7 +17,6 @@ from .console import STUDY, app, err, say
 
 if TYPE_CHECKING:
     from ..study.check import Checked
-    from ..study.study_file import StudyFile
 
 _EVERY = 0.3  # seconds between two looks whether a file was saved
 _MOST_COLUMNS = 12  # whose cells are counted in a line
@@ -98,37 +97,14 @@ def _once(folder: Path) -> Checked:
     if tonnage is not None:
         print_tonnage(tonnage)
     if parts and not found.errors:
+        from ..schedule.terms import wrong_terms
+
         plan = parts.whole()
-        found.errors += [*_wrong_cutoff(plan), *_wrong_pushbacks(plan, folder)]
+        found.errors += wrong_terms(plan, command("shells", folder))
         for line in _order_said(plan.values["schedule"]) if not found.errors else ():
             say(line)
     tell_strange(found.looks)
     return found
-
-
-def _wrong_cutoff(plan: StudyFile) -> list[PlanError]:
-    """What `schedule` would refuse of several processes: a cut-off by year beside them."""
-    from ..schedule.terms import refuse_by_year
-
-    try:
-        processes = plan.economics.rates.get("process_rates", {})
-        refuse_by_year(processes, plan.values["schedule"].get("cutoff"))
-    except PlanError as error:
-        return [error]
-    return []
-
-
-def _wrong_pushbacks(plan: StudyFile, folder: Path) -> list[PlanError]:
-    """What `schedule` would refuse of its pushbacks: that they don't ascend, or end at no pit of the
-    series."""
-    from ..schedule.terms import pushbacks_of, refuse_missing
-
-    try:
-        pushbacks = pushbacks_of(plan.values["schedule"]["pushbacks"] or ())
-        refuse_missing(pushbacks, plan.factors, command("shells", folder))
-    except PlanError as error:
-        return [error]
-    return []
 
 
 def _order_said(terms: Mapping[str, Any]) -> list[str]:

@@ -94,11 +94,10 @@ class Folder:
 
     def table_of(self, study: Path) -> Path | None:
         """The study's table; None where study.toml doesn't say it. Raises Refused where it lies outside."""
-        try:
+        with suppress(ValueError, KeyError, TypeError, RuntimeError):
             said = tomllib.loads((study / "study.toml").read_text("utf-8-sig"))["model"]["table"]
             return self.within(study / Path(said).expanduser())
-        except (ValueError, KeyError, TypeError, RuntimeError):
-            return None
+        return None
 
     def shown(self, study: Path, path: str) -> Path:
         """A file of a study that may be looked at or saved."""
@@ -124,6 +123,12 @@ def _told_of(path: Path, name: str) -> dict[str, Any]:
     return {"path": name, "bytes": found.st_size, "when": found.st_mtime}
 
 
+def stamp(path: Path) -> tuple[str, int, int]:
+    """What changes when a file does."""
+    there = path.stat()
+    return str(path), there.st_size, there.st_mtime_ns
+
+
 def etag(text: bytes) -> str:
     """What names a text."""
     return hashlib.sha256(text).hexdigest()[:16]
@@ -143,8 +148,7 @@ def writing(study: Path) -> Iterator[None]:
 
 
 def refusal(error: OSError, what: str = "") -> Refused:
-    """A disk that is full, or a folder where nothing may be written, in words; `what` is what isn't done, where that is more than
-    a file that isn't written."""
+    """A disk that is full, or a folder where nothing may be written, in words; `what` isn't done, if not a file alone."""
     where = Path(str(error.filename or "")).name
     if error.errno in FULL:
         undone = what or f"{where} wasn't written"

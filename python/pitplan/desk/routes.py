@@ -25,11 +25,13 @@ from ..base import events
 from ..base.errors import PlanError
 from ..base.files import put_aside, whole_file, write_json
 from ..base.study_lines import lines_of
+from ..base.typed_numbers import typed_number
 from ..study import turns
-from ..table.study_keys import KEYS, LISTS
+from ..table.study_keys import KEYS, LISTS, Key
 from . import runs, toml_text
 from .asked import Commands
-from .folder import BUNDLE, DESIGNS, HOME, TABLES, Folder, Refused, etag, refusal, writing
+from .folder import BUNDLE, DESIGNS, HOME, TABLES, Folder, Refused
+from .folder import etag, refusal, stamp, writing
 from .guard import SANDBOX
 from .manual import address, page_of
 from .worker import Worker
@@ -40,6 +42,8 @@ _SHOWN = {".html": "text/html", ".png": "image/png"}  # all else is saved
 _OWN = {".html": "text/html", ".css": "text/css", ".js": "text/javascript"}
 _LARGER = "copy it into the folder, or start the desk with a larger --upload-limit"
 _CHANGED = "changed.json"  # in a study's HOME: who wrote study.toml last, and what it was then
+# kinds of keys that have no numbers
+_WORDS = "text file column choice words rocks formulas columns units metals processes".split()
 _LONGEST_NAME = 40  # letters of who somebody says to be
 _Told = dict[str, Any]
 _Answer = Callable[[Request], Awaitable[Any]]
@@ -63,7 +67,7 @@ class Desk:
             ("POST", "/api/studies", self.begin),
             ("GET", at, self.of_study(self.told)),
             ("PATCH", at, self.change),
-            ("GET", at + "/pulse", self.of_study(_beat)),
+            ("GET", at + "/pulse", self.of_study(self.beat)),
             ("GET", at + "/look", self.asks(self.heavy, "look")),
             ("GET", at + "/check", self.asks(self.heavy, "check")),
             ("GET", at + "/rose", self.asks(self.quick, "rose")),
@@ -185,7 +189,7 @@ class Desk:
         """All of a study that stands in its folder."""
         before = (study / "study.toml").read_bytes()
         # of this very text, whatever is written while the rest is found: the page sees that it is old
-        pulse = {**_beat(study), "etag": etag(before)}
+        pulse = {**self.beat(study), "etag": etag(before)}
         values: _Told | None = None
         outside, text = list[_Told](), before.decode("utf-8-sig", "replace")
         with suppress(ValueError, RecursionError):
@@ -199,7 +203,18 @@ class Desk:
         told["lines"] = lines_of(text)
         told |= {"runs": list(map(_shown, runs.of(study))), "files": self.folder.results(study)}
         state = await self.quick("overview", study)
+        if "errors" in state:
+            raise Refused(503, state["errors"][0]["said"], state["errors"][0]["try"])
         return {**told, "state": state, "designs": designs, "pulse": pulse}
+
+    def beat(self, study: Path) -> _Told:
+        """What study.toml, the table and the latest run are now, and who has the study."""
+        found, holder, table = runs.of(study), turns.is_held(study), ""
+        with suppress(OSError, Refused):
+            table = str(stamp(self.folder.table_of(study) or study / "no table"))
+        latest = {key: found[0][key] for key in ("number", "state")} if found else None
+        now = {"etag": etag((study / "study.toml").read_bytes()), "table": table, "run": latest}
+        return {**now, "held": str(holder) if holder else None}
 
     async def change(self, request: Request) -> _Told:
         """Writes study.toml: some keys, or the whole text. Refused where somebody has changed the same meanwhile."""
@@ -291,55 +306,48 @@ def _text_of(asked: _Told, study: Path) -> bytes:
     return Path(_numbered(study, int(asked["run"]))["folder"], "study.toml").read_bytes()
 
 
-def _labelled(conflict: toml_text.Conflict) -> str:
-    """A key as its field is called, and as study.toml has it."""
-    section, *rest = conflict.path
-    is_of_list = rest[0] in LISTS and len(rest) > 2
-    key, name = (rest[0], rest[2]) if is_of_list else (section, rest[0])
-    label = next((k.label for k in KEYS if (k.section, k.name) == (key, name)), "")
-    return f"{label} ({conflict})" if label else str(conflict)
+def _key_of(section: Any, *rest: Any) -> Key | None:
+    """The key of study.toml that a path leads to, or into."""
+    place = (rest[0], rest[2]) if rest[0] in LISTS and len(rest) > 2 else (section, rest[0])
+    return next((key for key in KEYS if (key.section, key.name) == place), None)
+
+
+def _read(key: Key | None, value: Any) -> Any:
+    """What was typed, as a number where its key takes one and it can be read in one way."""
+    if isinstance(value, list):
+        return [_read(key, each) for each in value]
+    is_number = isinstance(value, str) and key is not None and key.kind not in _WORDS
+    found = typed_number(value) if is_number else None
+    return found.value if found and found.other is None else value
 
 
 def _changed(before: bytes, changes: Any, study: Path) -> bytes:
     """study.toml with some keys changed."""
     mark = "\ufeff" if before.startswith(b"\xef\xbb\xbf") else ""
     try:
+        changes = [{**it, "value": _read(_key_of(*it["path"]), it["value"])} for it in changes]
         return (mark + toml_text.changed(before.decode("utf-8-sig"), changes)).encode()
     except toml_text.Conflict as conflict:
-        raise _stale(_labelled(conflict), study) from None
-    except (ValueError, KeyError, TypeError) as error:
+        key = _key_of(*conflict.path)
+        said = f"{key.label} ({conflict})" if key else str(conflict)
+        raise _stale(said, study) from None
+    except (ValueError, LookupError, TypeError) as error:
         raise Refused(422, f"study.toml can't be changed so: {error}") from None
 
 
 def _stale(what: str, study: Path) -> Refused:
-    """The refusal of a change that another one came before: the desk knows who has changed
-    study.toml where that was done on it last."""
+    """The refusal of a change after another one: by whom, where that was done on a desk."""
     last = runs.read(study / HOME / _CHANGED) or {}
     is_desk = last.get("etag") == etag((study / "study.toml").read_bytes())
     who = f"by {last['who']} on the desk" if is_desk else "by an editor or a command"
-    return Refused(
-        409,
-        f"{what} was changed meanwhile, {who}; yours isn't written",
-        "look at what stands there now, and change it again",
-        stale=True,
-    )
+    said = f"{what} was changed meanwhile, {who}; yours isn't written"
+    return Refused(409, said, "look at what stands there now, and change it again", stale=True)
 
 
 def _write(path: Path, text: bytes) -> None:
     """A file of bytes, there whole or not at all."""
     with whole_file(path) as part:
         part.write_bytes(text)
-
-
-def _beat(study: Path) -> _Told:
-    """What study.toml and the latest run are now, and who has the study."""
-    found, holder = runs.of(study), turns.is_held(study)
-    latest = {key: found[0][key] for key in ("number", "state")} if found else None
-    return {
-        "etag": etag((study / "study.toml").read_bytes()),
-        "run": latest,
-        "held": str(holder) if holder else None,
-    }
 
 
 def _numbered(study: Path, number: int) -> _Told:

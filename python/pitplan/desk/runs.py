@@ -176,16 +176,14 @@ def stop(run: Mapping[str, Any]) -> bool:
 
 def since(pid: int) -> str | None:
     """When a process was started: with its number it names one process of this machine. None where it is no more."""
-    try:
+    with suppress(OSError):
         state, *rest = Path(f"/proc/{pid}/stat").read_text().rpartition(")")[2].split()
         return None if state == "Z" else f"{_BOOT.read_text().strip()} {rest[18]}"
-    except OSError:
-        return None
+    return None
 
 
 def read(path: Path) -> Any:
     """What such a file says; None where it isn't there."""
-    try:
+    with suppress(OSError, ValueError):
         return json.loads(path.read_text())
-    except (OSError, ValueError):
-        return None
+    return None

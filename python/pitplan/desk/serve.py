@@ -29,8 +29,7 @@ Ctrl-C ends the desk. What it has started goes on, and is found again when it is
 
 
 class _Server(uvicorn.Server):  # type: ignore[misc]  # uvicorn shows mypy no types
-    """Ends a while after it is told to, whatever is still asked: what was started goes on by
-    itself."""
+    """Ends a while after it is told to, whatever is still asked: what was started goes on."""
 
     def handle_exit(self, sig: int, frame: Any) -> None:
         """Asks for the end, and takes it where an answer or a process doesn't come to its own."""

@@ -8,7 +8,7 @@ from contextlib import suppress
 from typing import Any
 
 import tomlkit
-from tomlkit.exceptions import TOMLKitError
+from tomlkit.items import AoT
 
 from ..base.errors import spelled
 from ..base.study_lines import step_of, value_at
@@ -45,8 +45,8 @@ def changed(text: str, changes: Sequence[dict[str, Any]]) -> str:
         _put(wanted, path, value)
         try:
             new = _in_text(text, path, value)
-        except TOMLKitError as error:
-            raise ValueError(str(error)) from None
+        except Exception as error:  # tomlkit raises what it likes of what it can't write
+            raise ValueError(f"{type(error).__name__}: {error}") from None
         if tomllib.loads(new) != wanted:
             raise ValueError(f"{_told(path)} can't be written there: change it in the text")
         text = new
@@ -78,7 +78,8 @@ def _put(tree: Any, path: _Path, value: Any) -> None:
             else:
                 tree.pop(last, None)
         elif isinstance(tree, list) and last == len(tree):
-            tree.append(value)
+            # [[name]] takes tables with lines of their own
+            tree.append(tomlkit.item(value.unwrap()) if isinstance(tree, AoT) else value)
         else:
             tree[last] = value
     except (LookupError, TypeError, AttributeError, StopIteration) as error:

@@ -20,10 +20,12 @@ from typing import Any
 from ..base.error_text import errors_told
 from ..base.errors import PlanError
 from ..base.files import whole_file
+from ..base.next_command import command
 from ..base.units import Units
 from ..model.tonnage import TITLE, texts_of
 from ..plans.design import by_ids_of, has_points
 from ..plans.surface import of_dxf
+from ..schedule.terms import wrong_terms
 from ..study.building import near
 from ..study.check import check as checked, model_of
 from ..study.first_look import GRADE, look_at, metal_in, named_grades, written
@@ -37,6 +39,7 @@ from ..table.csv_text import SAY_ENCODING, dialect_of, head_of, names_of, number
 from ..table.csv_text import read_frame, rows_about
 from ..views import slope_rose
 from ..views.ground import from_above
+from .folder import stamp
 
 _LOOKED = "rows names grades size rotation absent region regions rocks notes".split()
 _GUESSED = ("size", "rotation", "absent")  # keys of [model] that a look at the table guesses
@@ -49,16 +52,10 @@ _KEPT = {"schedule": "runs/schedule/schedule.npz", "risk": "risk/risk.json"}
 _Told = dict[str, Any]
 
 
-def _stamp(path: Path) -> tuple[str, int, int]:
-    """What changes when a file does."""
-    there = path.stat()
-    return str(path), there.st_size, there.st_mtime_ns
-
-
 def begin(study: Path, table: Path, columns: Mapping[str, str], encoding: str | None) -> _Told:
     """As `pitplan init`: looks at a table and writes study.toml. What is asked for in its place comes with an error."""
     try:
-        look = _looked(_stamp(table), tuple(sorted(columns.items())), encoding)
+        look = _looked(stamp(table), tuple(sorted(columns.items())), encoding)
     except PlanError as error:
         return _asked_for(table, columns, encoding, error)
     study.mkdir(exist_ok=True)
@@ -105,25 +102,22 @@ def look(study: Path) -> _Told:
     table, model = _table_of(study)
     columns, absent = model.get("columns", {}), model.get("absent")
     names = tuple(sorted(columns.items())) if isinstance(columns, dict) else ()
-    of = _stamp(table), names, model.get("encoding")
+    of = stamp(table), names, model.get("encoding")
     found = _looked(*of)
     marks = list(map(str, absent)) if isinstance(absent, list) else found.absent
     each = [*found.grades, GRADE]
     metals = tomllib.loads(f"metals = [{''.join(map(metal_in, each))}]")["metals"]
     told = {name: getattr(found, name) for name in _LOOKED}
     told["size"] = found.size and list(found.size)
+    if isinstance(skip := model.get("skip"), int):
+        told["rows"] += found.dialect.skip - skip
     told |= {"named": named_grades(found), "metals": dict(zip(each, metals)), "marks": marks}
     seen, now = {key: told[key] for key in _GUESSED}, {"rotation": 0, **model, "absent": marks}
     if set(seen["absent"]) <= set(marks):
         del seen["absent"]
-    told["differs"] = [
-        [key, value] for key, value in seen.items() if value not in (None, now.get(key))
-    ]
-    return {
-        **told,
-        "columns": _lines(*of, tuple(marks)),
-        "init": tomllib.loads(written(found, "t")),
-    }
+    told["differs"] = [[key, it] for key, it in seen.items() if it not in (None, now.get(key))]
+    told["columns"], told["init"] = _lines(*of, tuple(marks)), tomllib.loads(written(found, "t"))
+    return told
 
 
 def _table_of(study: Path) -> tuple[Path, _Told]:
@@ -139,13 +133,10 @@ def _lines(table: Any, columns: Any, encoding: str | None, absent: tuple[str, ..
     """A line for each column of a table, made once."""
     found, marks = _looked(table, columns, encoding), numbers_among(absent)
     frame = read_frame(Path(table[0]), found.dialect)
-    is_what = {own: name for name, own in found.names.items()} | dict.fromkeys(
-        found.grades, "grade"
-    )
-    return [
-        {"name": name, "is": is_what.get(name, ""), **told_of(frame[name], marks)}
-        for name in map(str, frame.columns)
-    ]
+    is_what = {own: name for name, own in found.names.items()}
+    is_what |= dict.fromkeys(found.grades, "grade")
+    each = ((name, told_of(frame[name], marks)) for name in map(str, frame.columns))
+    return [{"name": name, "is": is_what.get(name, ""), **told} for name, told in each]
 
 
 _model: dict[Any, Any] = {}  # the model that was read last, by what it was read with
@@ -155,7 +146,7 @@ def _kept_model(parts: Any) -> Any:
     """The model that a table holds, read once for the same keys of [model]."""
     if parts.table is None or parts.keys is None:
         return None
-    key = (_stamp(parts.table) if parts.table.is_file() else None, repr(parts.keys))
+    key = (stamp(parts.table) if parts.table.is_file() else None, repr(parts.keys))
     if key not in _model:
         found = model_of(parts)
         _model.clear()
@@ -168,6 +159,8 @@ def check(study: Path) -> _Told:
     began, path = time.monotonic(), study / "study.toml"
     found = checked(study, _kept_model)
     model, tonnage = found.model, found.tonnage
+    if found.parts and not found.errors:
+        found.errors = wrong_terms(found.parts.whole(), command("shells", study))
     told: _Told = {
         "errors": [each for error in found.errors for each in errors_told(error, path)],
         "looks": [it.as_data() for it in found.looks],
@@ -193,8 +186,8 @@ def overview(study: Path) -> _Told:
         built = Study(study)
     except PlanError:
         return told
-    told |= {name: (study / path).is_file() for name, path in _KEPT.items()}
-    told |= {"built": True, "blocks": built.manifest["blocks"], "currency": built.currency}
+    told |= {name: (study / path).is_file() for name, path in _KEPT.items()} | {"built": True}
+    told |= {"blocks": built.manifest["blocks"], "currency": built.currency}
     try:
         file = read_study_file(study)
         built.refuse_changed(file.path, file.digest, file.table)
@@ -217,9 +210,8 @@ def overview(study: Path) -> _Told:
 
 
 def kind_of(design: Path, name: str, study: Path) -> _Told:
-    """What a dropped design is, as `compare` takes it: a surface or ids, where that can be told. A
-    DXF without faces is an error, and so is a text none of whose words is an id of the study's
-    table, built or not."""
+    """What a dropped design is, where that can be told: a surface or ids. A DXF without faces is an
+    error, and so are words that are no ids of the study's table, built or not."""
     try:
         if design.suffix.lower() == ".dxf":
             of_dxf(design)

@@ -20,9 +20,8 @@ from .folder import refusal
 
 PATIENCE = 300  # seconds that a question may take
 _SHARE = 0.85  # of the memory of the machine, or of its container, that this process may take
-_Do = Union[
-    str, Callable[..., Any]
-]  # a function of `work` by its name, which only the process loads
+# a function of `work` by its name, which only the process loads
+_Do = Union[str, Callable[..., Any]]
 
 
 class Worker:
@@ -81,10 +80,8 @@ def settle(root: Path) -> None:
 
 
 def _end_with_the_desk() -> None:
-    """Waits for the desk's end, and ends this process: a desk that is killed ends nothing itself.
-
-    Linux's signal at a parent's end would come when the thread ends that began this process.
-    """
+    """Waits for the desk's end, and ends this process. Linux's own signal would come when the thread
+    ends that began it."""
     desk = multiprocessing.parent_process()
     assert desk is not None
     desk.join()

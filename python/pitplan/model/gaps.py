@@ -10,7 +10,7 @@ import numpy as np
 import pandas as pd
 
 from ..base.arrays import Bools
-from ..base.errors import MOST_PLACES, PlanError, spelled
+from ..base.errors import MOST_PLACES, PlanError, Remedy, spelled
 from ..table.column_names import AIR
 from .grid import Grid
 
@@ -18,6 +18,7 @@ if TYPE_CHECKING:
     from .model import Model
 
 _LARGEST = 1 << 24  # blocks that pit reads
+_MISSING = ("model", "missing")
 
 
 def enclosed(columns: Bools) -> Bools:
@@ -82,6 +83,7 @@ def close(model: Model, missing: str, fill: Mapping[str, Any], table: str) -> No
         return
     if missing == "refuse":
         places = [_place(model, *map(int, each)) for each in np.argwhere(within)[:MOST_PLACES]]
+        filled = Remedy(("model", "fill"), _mean_block(model))
         raise PlanError(
             (
                 f"{places[0]} has no row, with blocks above and below it"
@@ -90,19 +92,21 @@ def close(model: Model, missing: str, fill: Mapping[str, Any], table: str) -> No
             table=table,
             try_this=(
                 'missing = "air" in [model] (old workings), or missing = "rock" with fill ='
-                f" {_mean_block(model)}"
+                f" {spelled(filled.value)}"
             ),
-        ).with_places(places)
+        ).with_places(places).with_remedy(
+            Remedy(_MISSING, "rock", "if these are rock", other="air", also=(filled,))
+        )
     _add_within(model, within, missing, fill)
 
 
-def _mean_block(model: Model) -> str:
-    """What a block of rock has in the mean, as `fill` is written: its tonnes, and the commonest
+def _mean_block(model: Model) -> dict[str, Any]:
+    """What a block of rock has in the mean, as `fill` says it: its tonnes, and the commonest
     rock."""
     rock = model.blocks[model.is_rock]
     commonest = str(rock["rock"].mode().iloc[0]) if len(rock) else "waste"
     tonnes = round(float(rock["tonnes"].mean())) if len(rock) else 0
-    return spelled({"tonnes": tonnes, "rock": commonest})
+    return {"tonnes": tonnes, "rock": commonest}
 
 
 def _shafts(model: Model, holes: Bools, missing: str, table: str) -> None:
@@ -119,7 +123,7 @@ def _shafts(model: Model, holes: Bools, missing: str, table: str) -> None:
             ),
             table=table,
             try_this='export it too, or missing = "air" in [model], if it is a shaft',
-        ).with_places(places)
+        ).with_places(places).with_remedy(Remedy(_MISSING, "air", "if it is a shaft"))
     model.notes.append(f"{int(holes.sum()):,} whole columns within the model left empty, as air")
 
 
@@ -137,7 +141,8 @@ def _add_within(model: Model, within: Bools, missing: str, fill: Mapping[str, An
     elif "tonnes" not in fill or "rock" not in fill:
         raise PlanError(
             '[model] missing = "rock": what is a block that has no row?',
-            try_this=f"fill = {_mean_block(model)} in [model]",
+            try_this=Remedy(("model", "fill"), _mean_block(model)),
+            key=("model", "fill"),
         )
     i, j, k = np.nonzero(within)
     index = model.index

@@ -147,12 +147,17 @@ class Model:
         b = self.blocks
         return self.grid.world(b.ix.to_numpy(), b.iy.to_numpy(), b.iz.to_numpy())
 
+    @property
+    def table_columns(self) -> list[str]:
+        """The columns as the table names them, without those that a model has beside them."""
+        return [str(name) for name in self.blocks.columns if name not in OURS]
+
     def numbers(self, column: str, what: str) -> Floats:
         """A column of the table as numbers, of shape (len(self),); `what` says in an error what it
         was wanted for. Raises PlanError where the table has no such column."""
         if column not in self.blocks.columns:
             raise PlanError(
-                f"{what}: the table has no column {column!r}{meant(column, map(str, self.blocks.columns))}"
+                f"{what}: the table has no column {column!r}{meant(column, self.table_columns)}"
             )
         return number_column(
             pd.Series(self.blocks[column].to_numpy(), index=self.blocks["row"], name=column),

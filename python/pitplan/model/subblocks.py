@@ -10,7 +10,7 @@ import numpy as np
 import pandas as pd
 
 from ..base.arrays import Floats, Indices, Ints
-from ..base.errors import PlanError
+from ..base.errors import PlanError, Remedy
 from ..table.column_names import PLACES, SIZES, columns_with
 from ..table.csv_text import NO_WEIGHT, number_column
 from ..table.formula import stripped
@@ -142,7 +142,7 @@ def whole_blocks(
             row=int(frame.index[row]),
             column=next(names[key] for key in SIZES if key in names),
             try_this="regularise = true in [model], or regularise in the package",
-        )
+        ).with_remedy(Remedy(("model", "regularise"), True))
     return _added_up(frame, names, _Parents.of(frame, names, places, lengths, size, wanted))
 
 

@@ -132,9 +132,7 @@ def _cells_of(model: Model, column: str) -> tuple[pd.Series, Ints]:
             try_this="design.with_sub_blocks(study) in place of study.model",
         )
     if column not in model.blocks.columns:
-        raise PlanError(
-            f"the table has no column {column!r}{meant(column, map(str, model.blocks.columns))}"
-        )
+        raise PlanError(f"the table has no column {column!r}{meant(column, model.table_columns)}")
     if model.parts is not None:
         table, block = model.parts.frame, model.parts.parent.astype(np.int64)
         return pd.Series(table[column].to_numpy(), table["row"].to_numpy()), block

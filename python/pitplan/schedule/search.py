@@ -29,7 +29,7 @@ from .unit_texts import UnitTexts
 from .whole_units import by_whole_units, is_small
 
 _BOUND_PART = 0.6  # of the time, that the bound may take
-_NEAR = 0.1  # of the gap asked for, to which the bound comes to the relaxation
+_NEAR = 0.01  # of the gap asked for, to which the bound comes to the relaxation
 _NEAREST = 1e-5
 _TRIES = 2000  # swaps between each two periods in a round
 _REBUILDS = 100  # tries of a round to dig other units, at most

@@ -9,9 +9,10 @@ from decimal import Decimal, localcontext
 from typing import Any
 
 from ..base.amounts import THOUSAND
-from ..base.errors import PlanError, about
+from ..base.errors import Gathered, PlanError, Remedy, about
 from ..base.units_shown import counted, share_text
 from ..study.shells import thousandths
+from ..study.study_file import StudyFile
 
 MILLION = 10**6  # weights are in millionths
 GRAIN = 1000  # parts of a tonne in which rock and feed are counted
@@ -95,7 +96,7 @@ def terms_of(
     processes: Mapping[str, float | None] = (
         values.get("process_rates") or rates.get("process_rates") or {}
     )
-    refuse_by_year(processes, values.get("cutoff"))
+    _refuse_by_year(processes, values.get("cutoff"))
     _refuse_processes(processes)
     mills = list(processes.values()) or [values.get("mill_rate") or rates.get("mill_rate")]
     yearly = list(map(_by_year, [values.get("mining_rate") or rates.get("mining_rate"), *mills]))
@@ -152,7 +153,7 @@ def _keys_of(processes: Mapping[str, float | None]) -> list[str]:
     return [f"rate of process {name}" for name in processes] or ["mill_rate"]
 
 
-def refuse_by_year(processes: Mapping[str, float | None], cutoff: str | None) -> None:
+def _refuse_by_year(processes: Mapping[str, float | None], cutoff: str | None) -> None:
     """Refuses a cut-off by year beside several processes.
 
     Parameters
@@ -173,7 +174,25 @@ def refuse_by_year(processes: Mapping[str, float | None], cutoff: str | None) ->
             f" {len(processes)} processes",
             try_this='cutoff = "fixed": each block goes where it is worth most at the full price',
             key=("schedule", "cutoff"),
-        )
+        ).with_remedy(Remedy(("schedule", "cutoff"), "fixed"))
+
+
+def wrong_terms(plan: StudyFile, then: str) -> list[PlanError]:
+    """What `pitplan schedule` would refuse of a study.toml that is right by itself: a cut-off by
+    year beside several processes; pushbacks that don't ascend, or end at no pit of the series.
+
+    Parameters
+    ----------
+    plan : StudyFile
+    then : str
+        The command that finds further pits.
+    """
+    found, values = Gathered(), plan.values["schedule"]
+    with found.part("schedule", "cutoff"):
+        _refuse_by_year(plan.economics.rates.get("process_rates", {}), values["cutoff"])
+    with found.part("schedule", "pushbacks"):
+        refuse_missing(pushbacks_of(values["pushbacks"] or ()), plan.factors, then)
+    return found.errors
 
 
 def _refuse_processes(processes: Mapping[str, float | None]) -> None:

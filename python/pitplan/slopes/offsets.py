@@ -65,7 +65,45 @@ _NEAR = 3
 
 
 class SlopeError(ValueError):
-    """A slope, size or limit that can't be meant; the text says which and what to give instead."""
+    """A slope, size or limit that can't be meant; the text says which and what to give instead.
+
+    Attributes
+    ----------
+    advice
+        What else to give, where it is known; else "".
+    """
+
+    advice = ""
+
+
+class _OutOfRange(SlopeError):
+    """A slope that is no slope in degrees."""
+
+    def __init__(self, angle: float) -> None:
+        self.advice = in_degrees(angle)
+        super().__init__(
+            "a slope is from %g to %g degrees from the horizontal; there is %g"
+            % (_FLATTEST, _STEEPEST, angle)
+        )
+
+
+def in_degrees(angle: float) -> str:
+    """What a slope out of range is in degrees, by the units that it may be in; "" where it is none.
+
+    >>> in_degrees(0.77)
+    '44.1 for 0.77, if it is in radians; or 37.6, if it is a rise over a run'
+    >>> in_degrees(110), in_degrees(-3)
+    ('47.7 for 110, if it is a rise in percent', '')
+    """
+    rise, by_percent = (math.degrees(math.atan(part)) for part in (angle, angle / 100))
+    if _STEEPEST < angle <= 1000:
+        return "%.1f for %g, if it is a rise in percent" % (by_percent, angle)
+    if not _FLATTEST <= rise or angle >= _FLATTEST:
+        return ""
+    if math.degrees(angle) > _STEEPEST:
+        return "%.1f for %g, if it is a rise over a run" % (rise, angle)
+    said = "%.1f for %g, if it is in radians; or %.1f, if it is a rise over a run"
+    return said % (math.degrees(angle), angle, rise)
 
 
 class TooSteep(SlopeError):
@@ -185,10 +223,7 @@ def wall(size: Sequence[float], angles: Angles, rotation: float = 0.0) -> Wall:
         raise SlopeError("no slope is given; it is in degrees, as 45")
     for bearing, angle in pairs:
         if not _FLATTEST <= angle <= _STEEPEST:
-            raise SlopeError(
-                "a slope is from %g to %g degrees from the horizontal; there is %g"
-                % (_FLATTEST, _STEEPEST, angle)
-            )
+            raise _OutOfRange(angle)
         if not 0 <= bearing <= 360:
             raise SlopeError(
                 "a bearing is from 0 to 360 degrees clockwise from north; there is %g" % bearing

@@ -12,7 +12,7 @@ from collections.abc import Mapping
 from dataclasses import dataclass
 from typing import Any
 
-from ..base.errors import KeyPath, PlanError
+from ..base.errors import KeyPath, PlanError, Remedy
 from ..base.units_shown import length_text
 from ..table.value_kinds import has_ramp
 from .offsets import Angles
@@ -107,5 +107,5 @@ def ramp_of(value: Mapping[str, Any] | None, region: str) -> Ramp | None:
             f"[slopes] {', '.join(map(str, key[1:]))}: a grade of {own['grade']:g} rises {own['grade']:g} m in each metre",
             try_this=f"grade = {own['grade'] / 100:g}",
             key=(*key, "grade"),
-        )
+        ).with_remedy(Remedy((*key, "grade"), own["grade"] / 100))
     return Ramp(**{name: float(number) for name, number in own.items()})

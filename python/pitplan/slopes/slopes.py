@@ -14,7 +14,17 @@ import numpy as np
 import pandas as pd
 
 from ..base.arrays import Array, Bools, Ints
-from ..base.errors import Gathered, KeyPath, PlanError, about, meant, near_to, spelled, swap_of
+from ..base.errors import (
+    Gathered,
+    KeyPath,
+    PlanError,
+    Remedy,
+    about,
+    meant,
+    near_to,
+    spelled,
+    swap_of,
+)
 from ..base.events import event
 from ..model.grid import Grid
 from ..model.model import Model
@@ -147,7 +157,9 @@ class Slopes:
             offsets.wall(size, angles, rotation)  # angles out of range are told as they were asked
             return offsets.wall(size, ramp.of_angles(angles) if ramp else angles, rotation)
         except offsets.SlopeError as error:
-            raise PlanError(f"[slopes] {where}: {error}", key=_key_of(region)) from None
+            raise PlanError(
+                f"[slopes] {where}: {error}", try_this=error.advice or None, key=_key_of(region)
+            ) from None
 
     def patterns(self, grid: Grid) -> dict[str, Pattern]:
         """The offsets of each region and the wall that they make, "default" first; searched once
@@ -261,13 +273,7 @@ class Slopes:
             with about("slopes", "by"):
                 found = _by_formula(str(self.by), model)
         else:
-            raise PlanError(
-                (
-                    "[slopes] by: the table has no column"
-                    f" {self.by!r}{meant(str(self.by), map(str, model.blocks.columns))}"
-                ),
-                key=("slopes", "by"),
-            ).with_swap(swap_of(str(self.by), map(str, model.blocks.columns)))
+            raise self._no_column(model)
         codes, there = pd.factorize(found)
         texts = [text_of(value) for value in there]
         wrong = Gathered()
@@ -289,6 +295,24 @@ class Slopes:
         # the last is that of an empty cell, whose code is -1
         of_code = np.array([*(index.get(text, 0) for text in texts), 0], np.int64)
         return cast(Ints, of_code[codes])
+
+    def _no_column(self, model: Model) -> PlanError:
+        """That the table has no column `by`: a name like it, or the column that has its regions."""
+        by, names = str(self.by), model.table_columns
+        near = near_to(by, names)
+        having = [name for name in names if near is None and _has_words(model, name, self.regions)]
+        return PlanError(
+            f"[slopes] by: the table has no column {by!r}{meant(by, names)}",
+            try_this=Remedy(("slopes", "by"), having[0]) if len(having) == 1 else None,
+            key=("slopes", "by"),
+        ).with_swap(swap_of(by, names))
+
+
+def _has_words(model: Model, column: str, words: Iterable[str] | None) -> bool:
+    """Whether each of these words, at least one, stands in a column of words."""
+    found = model.blocks[column]
+    wanted = set(words or ())
+    return bool(wanted) and found.dtype == object and wanted <= set(map(text_of, found.unique()))
 
 
 def _by_formula(formula: str, model: Model) -> Array:

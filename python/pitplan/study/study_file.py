@@ -48,6 +48,7 @@ _STAND_INS: dict[str, dict[str, Any]] = {
     study_keys.PROCESSES: {"cost": 0},
 }
 _FAR = 10**100  # how far from 0 a whole number may be
+_LARGEST_SHARE, _LARGEST_PERCENT = 10, 300  # of a price, that factors may have been meant as
 
 
 @dataclass(frozen=True)
@@ -464,7 +465,7 @@ def _mill_rates(document: Mapping[str, Any]) -> list[PlanError]:
             f"[{name}] mill_rate says the rate of a mill, and there are processes: of which is it?",
             try_this=f"take it out, and rate = {spelled(section['mill_rate'])} in one of [[economics.processes]]",
             key=(name, "mill_rate"),
-        )
+        ).with_remedy(Remedy((name, "mill_rate"), None))
         for name in ("shells", "schedule")
         if isinstance(section := document.get(name), Mapping) and "mill_rate" in section
     ]
@@ -534,11 +535,42 @@ def economics_of(found: Mapping[str, Any]) -> Economics:
 def _series(found: Any) -> list[int]:
     """The factors in thousandths: a series from, to, by; or a list of shares of the price."""
     try:
-        if isinstance(found, Mapping):
-            return factors(*(float(found[key]) for key in value_kinds.SERIES))
-        return series_of(found)
+        if not isinstance(found, Mapping):
+            return series_of(found)
+        low, high, step = (float(found[key]) for key in value_kinds.SERIES)
+        if high > low and step > high - low + 1e-9:
+            raise PlanError(f"factors from {low:g} to {high:g} by {step:g}: the step is too large")
+        return factors(low, high, step)
     except PlanError as error:
         named = "" if error.what.startswith("factors") else "factors: "
         raise PlanError(
-            f"[shells] {named}{error.what}", try_this=error.remedy or error.try_this
+            f"[shells] {named}{error.what}", try_this=_better_series(found) or error.try_this
         ) from None
+
+
+def _better_series(found: Any) -> Remedy | None:
+    """Factors that can be meant by some that can't be taken: those in percent of the price or in
+    thousandths as shares of it, and those that don't ascend in order."""
+    is_series = isinstance(found, Mapping)
+    keys = value_kinds.SERIES if is_series else range(len(found))
+    largest = max(abs(found[key]) for key in keys)
+    times, when = (
+        (1, "")
+        if largest <= _LARGEST_SHARE
+        else (100, "if these are in percent")
+        if largest <= _LARGEST_PERCENT
+        else (1000, "if these are in thousandths")
+    )
+    shares = [float(f"{found[key] / times:.9g}") for key in keys]
+    if is_series:
+        low, high, step = min(shares[:2]), max(shares[:2]), abs(shares[2])
+        step = step if step <= high - low else step / 100
+        shares = [low, high, float(f"{step:.9g}")]
+    else:
+        shares = sorted(set(shares))
+    better = dict(zip(keys, shares)) if is_series else shares
+    try:
+        _ = factors(*shares) if is_series else series_of(shares)
+    except PlanError:
+        return None
+    return Remedy(("shells", "factors"), better, when)

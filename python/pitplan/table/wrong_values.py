@@ -1,6 +1,7 @@
 """What is wrong with the values of a section of study.toml, each by itself, and what is meant."""
 from __future__ import annotations
 
+import re
 import tomllib
 from collections.abc import Iterable, Mapping
 from typing import Any
@@ -13,6 +14,7 @@ from .value_kinds import FAR, KINDS, RAMP_KEYS, RAMP_MEANS, has_ramp, is_number,
 
 _LEAST_PERCENT = 2  # from which on a number in place of a share is taken for percent
 _WIDEST_VALUE = 120  # letters of a value that is told again
+_OF_DEGREES = re.compile(r"\s*(°|deg|degs|degrees?)\s*$")  # what may stand after an angle
 _LONGEST_BARE = 60  # letters of a value in quotes that is read as one without
 # kinds whose numbers people type with separators
 _SEPARATED = (
@@ -171,8 +173,9 @@ def _wrong_key(ramp: Mapping[str, Any], said: str, at: KeyPath) -> PlanError | N
 def _wrong_value(key: Key, value: Any, where: str, at: KeyPath) -> PlanError:
     """The error of a value that a key may not have."""
     hint: str | Remedy | None = key.instead or None
-    if key.kind == "ramp" and is_table(value) and (error := _wrong_ramp(value, where, at)):
-        return error
+    remedy: Remedy | None = None
+    if key.kind == "ramp" and is_table(value) and (wrong := _wrong_ramp(value, where, at)):
+        return wrong
     near = meant(value, key.choices) if key.kind == "choice" and isinstance(value, str) else ""
     if key.kind == "columns" and is_table(value) and KINDS[key.kind].holds(value):
         name = next(name for name in value if name not in key.choices)
@@ -193,15 +196,18 @@ def _wrong_value(key: Key, value: Any, where: str, at: KeyPath) -> PlanError:
     # scaled by the factor, a penalty would fall with the price
     if key.path == _PRICE and is_number(value):
         hint = f"price = 0, selling = {-value:g}, if it is a penalty"
+        selling = Remedy((*at[:-1], "selling"), -value)
+        remedy = Remedy(at, 0, "if it is a penalty", also=(selling,))
     if key.most == 1 and is_number(value) and key.holds(of_percent(value)):
         hint = Remedy(at, of_percent(value))
     bare = _unquoted(value)
     is_quoted = bare != value and key.holds(bare)
-    return PlanError(
+    error = PlanError(
         f"{where} {key.name} is {_retold(value)}, and has to be {key.must}{', without quotes' if is_quoted else ''}",
         try_this=Remedy(at, bare) if is_quoted else hint,
         key=at,
     )
+    return error.with_remedy(error.remedy or remedy)
 
 
 def of_percent(value: float) -> float:
@@ -217,12 +223,12 @@ def of_percent(value: float) -> float:
 def _unquoted(value: Any) -> Any:
     """A value with what numbers, flags and lists it has in quotes without them.
 
-    >>> _unquoted("30"), _unquoted(["20", 20]), _unquoted("north")
-    (30, [20, 20], 'north')
+    >>> _unquoted("30"), _unquoted(["20", 20]), _unquoted("44 deg"), _unquoted("north")
+    (30, [20, 20], 44, 'north')
     """
     if isinstance(value, str) and len(value) <= _LONGEST_BARE:
         try:
-            return tomllib.loads(f"bare = {value}")["bare"]
+            return tomllib.loads(f"bare = {_OF_DEGREES.sub('', value)}")["bare"]
         except ValueError:
             return value
     if isinstance(value, list):
@@ -240,7 +246,7 @@ def missing_in(
         PlanError(
             f"{where or f'[{section}]'} has no {key.name}: {key.help}",
             try_this=key.instead or f"{key.name} = {KINDS[key.kind].example}",
-            key=at or (section,),
+            key=(*(at or (section,)), key.name),
         )
         for key in keys_of(section).values()
         if (key.is_needed or key.unless and values.get(key.unless) is None)

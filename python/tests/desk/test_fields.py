@@ -98,8 +98,10 @@ def test_ways_to_treat_a_block_are_added_changed_and_taken_out(study):
     cost, rocks = (study.values["economics"][key] for key in ("processing", "mill"))
     at = "i.economics.processes"
     study.press("economics.processes", "+ a way to treat a block")
-    study.has("economics", "processes", [{"name": "mill", "rocks": rocks, "cost": cost}])
+    mill = {"name": "mill", "rocks": rocks, "cost": cost, "rate": 1.5e6}
+    study.has("economics", "processes", [mill])
     assert {"processing", "mill"} & set(study.values["economics"]) == set()
+    assert "mill_rate" not in study.values["shells"]  # it is the mill's now
     study.browser.there(f"[id='{at}.0.name']")
     study.press("economics.processes", "+ a way to treat a block")
     study.browser.there(f"[id='{at}.1.name']")
@@ -170,7 +172,7 @@ def test_each_kind_of_value_is_written_by_its_form(study):
     study.has("economics", "exchange", {"EUR": 1.1})
     study.well()
     study.goes("slopes", "What is asked for")
-    study.press("slopes.ramp", "say it")
+    study.press("slopes.ramp", "+ ramp")
     whole = {"width": 25, "grade": 0.10, "height": 300, "turns": 2}
     study.has("slopes", "ramp", whole)
     see.types("i.slopes.ramp.turns", "1")

@@ -228,6 +228,49 @@ def test_tables_of_pushbacks_and_of_slopes_fit(browser, desk, folder):
     assert browser.script(HIDDEN) == []
 
 
+HELD = """const asks = window.fetch;
+window.fetch = async (path, how) => {
+  if (how?.method === 'PATCH') await new Promise(done => { window.lets = done; });
+  return asks(path, how);
+};"""
+DRAWS = "for (let n = 0; n < 3; n += 1) dispatchEvent(new HashChangeEvent('hashchange'))"
+VALUES = "return ['0.price', '0.payable', '1.price'].map(k => document.getElementById('i.economics.metals.' + k).value)"
+
+
+def test_what_is_typed_stays_while_it_is_on_its_way_and_the_page_is_drawn_anew(
+    browser, desk, folder
+):
+    shutil.copytree(folder / "hill", folder / "slowly")
+    study = folder / "slowly" / "study.toml"
+    browser.get(f"{desk.address}/#/slowly/money")
+    browser.sees("In the ground")
+    browser.there("[id='i.economics.metals.1.price']")
+    browser.script(HELD)
+    for key, text in (("0.price", "9111"), ("0.payable", "0.9")):
+        browser.fills(f"[id='i.economics.metals.{key}']", text)
+    half = (
+        "const e = document.getElementById('i.economics.metals.1.price'); e.focus(); e.value = '17'"
+    )
+    browser.script(half)  # still being typed
+    for _ in range(2):
+        browser.until(lambda: browser.script("return Boolean(window.lets)"), "it is on its way")
+        browser.script(DRAWS)
+        assert browser.script(VALUES) == ["9111", "0.9", "17"]
+        browser.script("const go = window.lets; window.lets = null; go()")
+    browser.until(lambda: "payable = 0.9," in study.read_text(), "both are written")
+    browser.until(lambda: browser.script(PENDING) == "0", "they are answered")
+    assert browser.script(VALUES) == ["9111", "0.9", "17"]
+    # an error elsewhere comes to stand above the box
+    text = study.read_text().replace("angles = 44", "angles = 1", 1)
+    study.write_text(text)
+    browser.sees("1 error on Slopes", "#main")
+    assert browser.script(VALUES) == ["9111", "0.9", "17"]
+    at = browser.script("return document.activeElement.id")
+    assert at == "i.economics.metals.1.price"  # which somebody still types in
+    assert browser.script(PENDING) == "0"  # and that isn't sent before it is left
+    browser.get("about:blank")
+
+
 def test_an_older_study_is_taken_again_and_results_of_another_one_are_marked(browser, desk, folder):
     shutil.copytree(folder / "hill", folder / "again")
     study = folder / "again" / "study.toml"
@@ -255,7 +298,7 @@ def test_an_older_study_is_taken_again_and_results_of_another_one_are_marked(bro
             lambda: browser.script("return !document.querySelector('#asks').open"), "it is shut"
         )
         browser.until(lambda: study.read_text() == wanted, answer)
-    browser.sees("kept as study.toml.before", "#say")
+    browser.hears("kept as study.toml.before")
     assert study.with_name("study.toml.before").read_text() == typed
     browser.until(lambda: not browser.text("#main .before"), "no mark")
 
@@ -342,20 +385,18 @@ def test_a_number_with_a_separator_is_named_and_put_right_by_a_button(browser, d
     study = folder / "typed" / "study.toml"
     browser.get(f"{desk.address}/#/typed/money")
     price = "i.economics.metals.0.price"
-    for text, named, right in (
-        ("9,250", "',' between thousands", "price = 9250"),
-        ("1.250,5", "'.' between thousands, and ',' before the decimals", "price = 1250.5"),
-    ):
-        browser.sees("In the ground")
-        browser.types(price, text)
-        browser.sees(named, ".k-metals .fault")
-        browser.sees(right, ".k-metals .fault .mend")
-        browser.script("document.querySelector('.k-metals .fault .mend').focus()")
-        browser.keys(Keys.ENTER)
-        browser.until(lambda: f"{right}," in study.read_text(), right)
-        browser.until(lambda: not browser.text(".fault"), "no error")
-        at = "return document.activeElement.id"
-        browser.until(lambda: browser.script(at) == price, "the focus is on its field")
+    browser.sees("In the ground")
+    browser.types(price, "9,250")
+    browser.sees("',' between thousands", ".k-metals .fault")
+    browser.sees("price = 9250", ".k-metals .fault .mend")
+    browser.script("document.querySelector('.k-metals .fault .mend').focus()")
+    browser.keys(Keys.ENTER)
+    browser.until(lambda: "price = 9250," in study.read_text(), "it is put in")
+    browser.until(lambda: not browser.text(".fault"), "no error")
+    at = "return document.activeElement.id"
+    browser.until(lambda: browser.script(at) == price, "the focus is on its field")
+    browser.types(price, "1.250,5")  # which is one number alone
+    assert "price = 1250.5," in study.read_text()
 
 
 def test_the_manual_is_a_link_where_it_is_there(browser, desk):
@@ -463,7 +504,7 @@ def test_a_text_that_is_refused_stays_open_and_a_second_save_is_taken(browser, d
     )
     study.write_text("# of an editor\n" + first)
     browser.click("#save")
-    browser.sees("was changed meanwhile, by an editor", "#say")
+    browser.hears("was changed meanwhile, by an editor")
     browser.until(lambda: browser.script(PENDING) == "0", "it is answered")
     typed = "return document.getElementById('edits')?.value ?? ''"
     assert browser.script(typed).startswith("# typed")
@@ -511,7 +552,7 @@ def test_a_design_that_breaks_the_slopes_is_marked(browser, desk, folder):
     browser.get(f"{desk.address}/#/broken/designs")
     browser.gives("#pick", TOP / "examples" / "hill-design.dxf")
     browser.there("#compare:not([disabled])")
-    assert "is on its way" not in browser.text("#say")
+    browser.until(lambda: "is on its way" not in browser.text("#say"), "it has come")
     browser.click("#compare")
     browser.sees("the design breaks the slopes", "#main p.look")
     browser.sees("design done by", "#main")

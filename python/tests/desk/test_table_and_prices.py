@@ -200,7 +200,7 @@ def test_a_hole_is_told_and_its_keys_are_in_sight(browser, begin):
     highest = max(columns.values(), key=len)
     begin("".join(row for at, row in enumerate(rows) if at != sorted(highest)[1][1]))
     browser.sees("has no row, with blocks above and below it", "#main")
-    assert browser.script("return document.getElementById('folded.wrong').open")
+    assert browser.script("return document.querySelector('#folded.wrong').open")
 
 
 def test_many_holes_are_listed_and_filled_with_their_domain(browser, begin):
@@ -221,13 +221,16 @@ def test_many_holes_are_listed_and_filled_with_their_domain(browser, begin):
     for n in gone:
         place = [float(cells[n][i]) for i in at]
         assert any(all(abs(a - b) < 1 for a, b in zip(place, it)) for it in found), (place, found)
-    browser.picks("i.model.missing", "rock")
-    browser.press_on("button", "say what is in a hole")
+    mean = browser.text("[id='f.model.missing'] .try").partition("fill = ")[2]
+    browser.press_on("[id='f.model.missing'] .mend", 'put it in: missing = "rock", fill = ')
+    browser.until(lambda: told(study)["model"]["missing"] == "rock", "what a hole is")
+    filled = told(study)["model"]["fill"]
+    assert tomllib.loads(f"fill = {mean}")["fill"] == filled  # as the error says it
     browser.press_on("button", "+ SECTOR")
     browser.picks("i.model.fill.SECTOR", "SOUTH")
     browser.picks("i.model.fill.rock", "SUL")
     browser.sees("3 blocks added where rows are missing", "#main")
-    assert told(study)["model"]["fill"] == {"tonnes": 10400, "rock": "SUL", "SECTOR": "SOUTH"}
+    assert told(study)["model"]["fill"] == {**filled, "rock": "SUL", "SECTOR": "SOUTH"}
 
 
 def test_statistics_leave_out_the_marks_that_the_planner_adds(browser, begin):
@@ -250,10 +253,32 @@ def test_statistics_leave_out_the_marks_that_the_planner_adds(browser, begin):
     browser.sees("without -99, -7, -5", "#main")
 
 
-def test_a_share_with_a_decimal_comma_has_a_button(browser, begin):
+PAYABLE = "i.economics.metals.0.payable"
+
+
+def test_a_share_with_a_decimal_comma_is_a_number(browser, begin):
     study = begin(HILL)
     browser.click("[id='to.money']")
     browser.types("i.economics.metals.0.payable", "0,965")
-    browser.press_on(".mend", "put it in: payable = 0.965")
-    browser.until(lambda: told(study)["economics"]["metals"][0]["payable"] == 0.965, "it is put in")
+    assert told(study)["economics"]["metals"][0]["payable"] == 0.965
+    assert browser.script(f"return document.getElementById('{PAYABLE}').value") == "0.965"
     browser.until(lambda: not browser.text(".fault"), "no error")
+
+
+def test_examples_are_listed_before_a_build_and_a_field_says_what_it_is(browser, begin):
+    study = begin(HILL)
+    browser.sees("5,041 rows")
+    drawn = "return getComputedStyle(document.querySelector('.drawn'), '::before').content"
+    browser.there(".drawn img.ground")
+    assert "is being drawn" in browser.script(drawn)  # below a picture that isn't there yet
+    browser.click("[id='to.pits']")
+    listed = "Still examples, and not yours: Digging, Treating, Overall slope, "
+    browser.sees(listed, "#main p.look")
+    browser.sees("Discount, Price of copper", "#main p.look")
+    browser.sees("= 20,000,000 tonnes a year", "[id='f.shells.mining_rate']")
+    browser.script("document.getElementById('i.shells.discount').focus()")
+    browser.sees("Discount: a share a year", ".help")
+    assert browser.script("return document.querySelector('#text li.at i').innerText") == "# a year"
+    browser.types("i.shells.discount", "0,09")
+    browser.until(lambda: "Discount" not in browser.text("#main p.look"), "it is the planner's")
+    assert told(study)["shells"]["discount"] == 0.09

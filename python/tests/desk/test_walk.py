@@ -251,7 +251,7 @@ def test_two_people_at_once(browser, planned):
         fresh = text.replace(f"price = {before + 100}", f"price = {before + 200}")
         (folder / "hill" / "study.toml").write_text(fresh)
         other.types("i.economics.metals.0.price", str(before + 300))
-        other.sees("was changed meanwhile", "#say")
+        other.hears("was changed meanwhile")
         other.until(lambda: other.script(code) == str(before + 200), "what stands there now")
         assert told(folder / "hill")["economics"]["metals"][0]["price"] == before + 200
         # one is still typing when the other's change comes
@@ -260,7 +260,7 @@ def test_two_people_at_once(browser, planned):
         other.types("i.economics.metals.0.price", str(before + 500))
         browser.sees(f"price = {before + 500}", "#text")
         browser.script(box + "e.dispatchEvent(new Event('change')); e.blur()")
-        browser.sees("was changed meanwhile", "#say")
+        browser.hears("was changed meanwhile")
         browser.until(lambda: browser.script(code) == str(before + 500), "what stands there now")
         assert told(folder / "hill")["economics"]["metals"][0]["price"] == before + 500
         browser.types("i.economics.metals.0.price", str(before + 600))

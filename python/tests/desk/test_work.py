@@ -251,7 +251,7 @@ def test_a_word_that_is_meant_otherwise_and_a_look_have_a_change_that_mends_them
     told = desk.get("/api/studies/meant/check").json()["errors"]
     right = {"key": ["economics", "mining"], "value": "2.0 + ZC / 100 + ZDX"}
     assert [each["remedy"] for each in told] == [
-        {**right, "when": "", "adds": False, "other": None}
+        {**right, "when": "", "adds": False, "other": None, "also": []}
     ]
     mill = ["OXl", "SUL"]
     changed(desk, "meant", (["economics", "mining"], 2.5), (["economics", "mill"], mill))
@@ -263,12 +263,99 @@ def test_a_word_that_is_meant_otherwise_and_a_look_have_a_change_that_mends_them
     looks = desk.get("/api/studies/meant/check").json()["looks"]
     unit = ["economics", "metals", "copper", "price_unit"]
     assert [look["remedy"] for look in looks if look["remedy"]] == [
-        {"key": unit, "value": "kg", "when": "", "adds": False, "other": None}
+        {"key": unit, "value": "kg", "when": "", "adds": False, "other": None, "also": []}
     ]
     assert changed(desk, "meant", (unit, "kg")).json()["values"]["economics"]["metals"][0] == {
         **desk.get("/api/studies/meant").json()["values"]["economics"]["metals"][0],
         "price_unit": "kg",
     }
+
+
+def metal(told, key):
+    return told.json()["values"]["economics"]["metals"][0][key]
+
+
+def test_what_is_typed_as_a_number_is_one_where_it_can_be_read_in_one_way(desk):
+    begun(desk, "read")
+    at = ["economics", "metals", 0]
+    for text, number in (("0,965", 0.965), ("1.250,5", 1250.5), ("1 250", 1250), ("0.9", "0.9")):
+        assert metal(changed(desk, "read", ([*at, "price"], text)), "price") == number
+    assert metal(changed(desk, "read", ([*at, "price"], "9,250")), "price") == "9,250"
+    assert metal(changed(desk, "read", ([*at, "name"], "1,5")), "name") == "1,5"
+    angles = [[0, "38,5"], [180, 45]]
+    told = changed(desk, "read", (["slopes", "angles"], angles), (["model", "absent"], ["-9,5"]))
+    assert told.json()["values"]["slopes"]["angles"] == [[0, 38.5], [180, 45]]
+    assert told.json()["values"]["model"]["absent"] == ["-9,5"]
+    mining = ["economics", "mining"]
+    assert changed(desk, "read", (mining, "2,5")).json()["values"]["economics"]["mining"] == 2.5
+
+
+LISTED = """
+[[economics.processes]]
+name = "mill"
+cost = 9.00
+[[economics.processes]]
+name = "leach"
+rocks = ["OXI"]
+cost = 4.00
+recovery = { copper = 0.6 }
+"""
+
+
+@pytest.mark.parametrize("listed", ["", LISTED], ids=["by the desk", "as init's comment has it"])
+def test_ways_to_treat_a_block_are_added_one_after_the_other(desk, listed):
+    name = "listed" if listed else "unlisted"
+    study = begun(desk, name)
+    text = (study / "study.toml").read_text()
+    if listed:
+        text = text.replace("processing = 9.00", "# processing = 9.00")
+        (study / "study.toml").write_text(text.replace("\n[slopes]", f"{listed}\n[slopes]"))
+    else:
+        changed(desk, name, (["economics", "processes"], [{"name": "mill", "cost": 9}]))
+    at = ["economics", "processes"]
+    for n in (len(listed and "12") or 1, len(listed and "123") or 2):
+        told = changed(desk, name, ([*at, n], {"name": f"process {n}", "cost": 4.0}))
+        assert told.status_code == 200, told.text
+        assert told.json()["values"]["economics"]["processes"][n]["name"] == f"process {n}"
+    assert "# mill = " in (study / "study.toml").read_text()  # and all else stands
+
+
+def test_what_a_plan_by_years_refuses_is_told_as_check_does(desk):
+    study = begun(desk, "yearly")
+    ways = [{"name": "mill", "cost": 9, "rate": 1e6}, {"name": "leach", "cost": 4, "rate": 1e6}]
+    cutoff = (["schedule", "cutoff"], "by year"), (["schedule", "pushbacks"], [0.8, 0.4])
+    changed(desk, "yearly", (["economics", "processes"], ways), *cutoff)
+    changed(desk, "yearly", (["economics", "processing"], None), (["shells", "mill_rate"], None))
+    told = desk.get("/api/studies/yearly/check").json()["errors"]
+    ran = pitplan("check", study)
+    assert [each["key"] for each in told] == [["schedule", "cutoff"], ["schedule", "pushbacks"]]
+    assert all(each["said"] in ran.stderr for each in told), ran.stderr
+    assert told[0]["remedy"]["value"] == "fixed"
+
+
+def test_a_table_that_is_corrected_is_noticed_and_its_rows_are_counted_anew(desk):
+    begun(desk, "corrected")
+    before = desk.get("/api/studies/corrected/pulse").json()
+    assert desk.get("/api/studies/corrected/look").json()["rows"] == 5041
+    (desk.root / "hill.csv").write_text("\n".join(HILL.splitlines()[:-40]) + "\n")
+    assert desk.get("/api/studies/corrected/pulse").json()["table"] != before["table"]
+    assert desk.get("/api/studies/corrected/look").json()["rows"] == 5001
+    changed(desk, "corrected", (["model", "skip"], 5))
+    assert desk.get("/api/studies/corrected/look").json()["rows"] == 4996
+    (desk.root / "hill.csv").unlink()
+    assert desk.get("/api/studies/corrected/pulse").json()["table"] == ""
+
+
+def test_what_is_missing_is_told_at_its_own_key_and_a_rate_of_a_mill_has_a_way_out(desk):
+    begun(desk, "missing")
+    changed(desk, "missing", (["economics", "mining"], None))
+    told = desk.get("/api/studies/missing/check").json()["errors"]
+    assert [each["key"] for each in told] == [["economics", "mining"]]
+    ways = [{"name": "mill", "cost": 9}]
+    changed(desk, "missing", (["economics", "mining"], 2), (["economics", "processes"], ways))
+    told = desk.get("/api/studies/missing/check").json()["errors"]
+    of_rate = next(each for each in told if each["key"] == ["shells", "mill_rate"])
+    assert of_rate["remedy"] == {**of_rate["remedy"], "key": ["shells", "mill_rate"], "value": None}
 
 
 def test_the_manual_is_served_and_nothing_beside_it(desk, tmp_path, monkeypatch):

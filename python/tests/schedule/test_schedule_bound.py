@@ -1,5 +1,6 @@
 """The bound of made-up mines so small that every schedule is tried, and the relaxation is one linear
 program."""
+import time
 from dataclasses import replace
 
 import numpy as np
@@ -91,6 +92,15 @@ def test_no_schedule_is_worth_more_than_the_bound(tmp_path, seed, terms):
     assert relaxed * (1 - 1e-9) <= search.found.bound <= relaxed * (1 + 1e-4)
     assert 0.999 * best <= search.found.npv <= best
     assert not made.wrong(search.plan)
+
+
+@pytest.mark.parametrize("gap", [0.05, 0.08])
+@pytest.mark.parametrize("seed", range(1, 5))
+def test_the_bound_comes_to_a_hundredth_of_the_gap_of_the_relaxation(tmp_path, seed, gap):
+    made, pairs, sinking = made_up(seed, sinks=True)
+    search, relaxed = Search(tmp_path, made, Pit()), whole_relaxation(made, pairs, sinking)
+    search.lower(gap, time.monotonic() + 1e6)
+    assert search.found.bound <= relaxed * (1 + 0.01 * gap)
 
 
 @pytest.mark.parametrize("kind", [Expanded, UnitTexts])

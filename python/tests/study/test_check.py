@@ -880,17 +880,17 @@ HIDDEN = {
     "a metal without a grade has its recovery read": (
         [('grade = "CU", ', ""), ("recovery = 0.85", 'recovery = "0.8 * XX"')],
         None,
-        [("economics", "metals", "copper"), ("economics", "metals", "copper", "recovery")],
+        [("economics", "metals", "copper", key) for key in ("grade", "recovery")],
     ),
     "a metal without a name has its grade read": (
         [('name = "gold", grade = "AU"', 'grade = "AUU"')],
         None,
-        [("economics", "metals", 1), ("economics", "metals", 1, "grade")],
+        [("economics", "metals", 1, "name"), ("economics", "metals", 1, "grade")],
     ),
     "metals that aren't there hide no formula": (
         [("metals = [", "mettals = ["), ("mining = 2.0", 'mining = "2.0 + ZZC"')],
         None,
-        [("economics",), ("economics", "mettals"), ("economics", "mining")],
+        [("economics", "metals"), ("economics", "mettals"), ("economics", "mining")],
     ),
     "a wrong cost hides no rounding": (
         [("mining = 2.0", "mining = true\nrounding = 0.00000001")],

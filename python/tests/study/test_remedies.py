@@ -255,3 +255,62 @@ def test_check_counts_the_cells_that_are_not_estimated(tmp_path):
     text = (bare / "blocks.csv").read_text().replace(",-99,", ",0,")
     (bare / "blocks.csv").write_text(text)
     assert "not estimated" not in said("check", bare)
+
+
+FACTORS = "factors = { from = 0.4, to = 1.2, step = 0.1 }"
+
+
+@pytest.mark.parametrize(
+    "now, wanted",
+    [
+        ("[40, 60, 80, 100]", "factors = [0.4, 0.6, 0.8, 1] in [shells], if these are in percent"),
+        ("[400, 1000]", "factors = [0.4, 1] in [shells], if these are in thousandths"),
+        (
+            "{ from = 40, to = 120, step = 10 }",
+            "factors = { from = 0.4, to = 1.2, step = 0.1 } in [shells], if these are in percent",
+        ),
+        (
+            "{ from = 1.2, to = 0.4, step = 0.1 }",
+            "factors = { from = 0.4, to = 1.2, step = 0.1 } in [shells]",
+        ),
+        (
+            "{ from = 0.4, to = 1.2, step = 10 }",
+            "factors = { from = 0.4, to = 1.2, step = 0.1 } in [shells]",
+        ),
+        ("[1, 0.8, 0.5, 0.8]", "factors = [0.5, 0.8, 1] in [shells]"),
+    ],
+)
+def test_factors_in_another_unit_or_order_come_as_shares_that_ascend(tmp_path, now, wanted):
+    told = only_error(mine(tmp_path / "m", FACTORS, f"factors = {now}"))
+    assert told[-1] == f"  try: {wanted}"
+
+
+@pytest.mark.parametrize(
+    "was, now, wanted",
+    [
+        # 0.77 is 44.1 degrees in radians, and atan(0.77) is 37.6 degrees
+        (
+            "angles = 44 ",
+            "angles = 0.77 ",
+            "44.1 for 0.77, if it is in radians; or 37.6, if it is a rise over a run",
+        ),
+        ("[90, 44]", "[90, 110]", "47.7 for 110, if it is a rise in percent"),
+        ("angles = 44 ", "angles = 3 ", "71.6 for 3, if it is a rise over a run"),
+        ("angles = 44 ", 'angles = "44 deg" ', "angles = 44 in [slopes]"),
+        ("angles = 44 ", 'angles = "44°" ', "angles = 44 in [slopes]"),
+    ],
+)
+def test_a_slope_in_another_unit_is_told_in_degrees(tmp_path, was, now, wanted):
+    assert only_error(mine(tmp_path / "m", was, now))[-1] == f"  try: {wanted}"
+
+
+def test_a_column_that_isnt_there_is_told_beside_those_of_the_table_alone(tmp_path):
+    told = only_error(
+        mine(tmp_path / "m", '{ name = "gold", grade = "AU"', '{ name = "gold", grade = "GRAM"')
+    )
+    assert "there are BLOCKID, XC, YC, ZC, SG, CU, AU, ROCK, SECTOR" in " ".join(told)
+
+
+def test_the_column_that_has_all_regions_is_told_in_place_of_one_that_isnt_there(tmp_path):
+    told = only_error(mine(tmp_path / "m", 'by = "SECTOR"', 'by = "Domain"'))
+    assert told[-1] == '  try: by = "SECTOR" in [slopes]'

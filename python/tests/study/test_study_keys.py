@@ -258,12 +258,12 @@ TOLD = [
     (("model", "rotation"), 4, "has to be a number"),
     (("model", "missing"), 5, '"refuse", "air" or "rock"; is \'air\' meant?'),
     (("economics", "minning"), 8, "has no key 'minning'; is 'mining' meant?"),
-    (("economics",), 7, "has no mining"),
+    (("economics", "mining"), 7, "has no mining"),
     (("economics", "processing"), 9, "processing is True"),
     (("economics", "dilution"), 10, "a number from 0 to 1"),
     (("economics", "metals", "copper", "price"), 12, "try: price = 0, selling = 8500"),
     (("economics", "metals", "copper", "recovry"), 12, "is 'recovery' meant?"),
-    (("economics", "metals", 1), 13, "metal 2 has no name"),
+    (("economics", "metals", 1, "name"), 13, "metal 2 has no name"),
     (("economics", "metals", 1, "grade_unit"), 13, '"%", "kg/t"'),
     (("slopes", "angles"), 17, "degrees as 45, or by bearing"),
     (("shells", "discount"), 20, "discount is 8"),
@@ -307,6 +307,7 @@ def test_a_remedy_is_words_and_data():
         "when": 'if that stands for "not estimated"',
         "adds": True,
         "other": None,
+        "also": [],
     }
     assert error.as_data()["row"] == 5
 

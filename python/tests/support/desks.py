@@ -12,7 +12,7 @@ from browsers import Firefox, chromium
 from processes import STARTED, TOP, started
 
 TOKEN = "a-token-of-the-tests"
-PATIENCE = int(os.environ.get("DESK_PATIENCE", "180"))  # seconds, on a busy machine
+PATIENCE = int(os.environ.get("DESK_PATIENCE", "600"))  # seconds, on a busy machine
 
 ASKED = """return performance.getEntriesByType('resource').slice(-60)
     .map(e => `${Math.round(e.startTime)} ms, status ${e.responseStatus}: ${e.name}`).join('\\n')"""
@@ -48,38 +48,17 @@ return [...document.querySelectorAll("#main :is(input, select, button, textarea,
 """
 
 
-# what reaches out of its card, or out of the page
-WIDE = """
-const wide = [];
-const main = document.getElementById("main");
-if (document.documentElement.scrollWidth > innerWidth) wide.push("the page");
-if (main.scrollWidth > main.clientWidth) wide.push("main");
-for (const card of document.querySelectorAll("#main .card")) {
-  const right = card.getBoundingClientRect().right;
-  for (const e of card.querySelectorAll("*")) {
-    if (e.closest(".scroll") && !e.matches(".scroll")) continue;
-    const box = e.getBoundingClientRect();
-    if (box.width && box.right > right + 1) wide.push(e.outerHTML.slice(0, 120));
-  }
-}
-for (const e of document.querySelectorAll("#top > *, #nav > *")) {
-  if (e.getBoundingClientRect().right > innerWidth + 1) wide.push(e.outerHTML.slice(0, 120));
-}
-return wide.slice(0, 4)
-"""
-
-# what may be pressed or filled and has no name
-NAMELESS = """
-return [...document.querySelectorAll("#main :is(input, select, button, textarea, a, img, iframe), #top input")]
-  .filter(e => !(e.getAttribute("aria-label") || e.title || e.alt || e.textContent.trim() || e.labels?.length))
-  .map(e => e.outerHTML.slice(0, 120))
-"""
-
-
 def free_port():
     with socket.socket() as free:
         free.bind(("127.0.0.1", 0))
         return free.getsockname()[1]
+
+
+# keeps what the page says for seconds only
+KEEPS = """window.heard ??= [document.getElementById("say").innerText];
+window.hears ??= new MutationObserver(all => all.forEach(one => one.addedNodes.forEach(
+  node => window.heard.push(node.textContent))));
+window.hears.observe(document.getElementById("say"), { childList: true });"""
 
 
 class Desk:
@@ -141,6 +120,7 @@ class Hands:
         self.goes(address)
         if "#/" in address:
             self.until(lambda: self.script(DRAWN), f"{address} drawn")
+            self.script("if (document.getElementById('say')) { %s }" % KEEPS)
 
     def until(self, ask, what):
         end = time.time() + PATIENCE
@@ -158,6 +138,11 @@ class Hands:
     def sees(self, words, css="body"):
         """Waits until a text is there."""
         self.until(lambda: words in self.text(css), repr(words))
+
+    def hears(self, words):
+        """Waits until the page has said something, be it gone again."""
+        code = "return window.heard.some(said => said.includes(%s))"
+        self.until(lambda: self.script(code, words), f"it says {words!r}")
 
     def there(self, css):
         """Waits until an element is there."""

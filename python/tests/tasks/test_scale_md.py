@@ -22,6 +22,10 @@ KNOWN = {
     "2,000,000": "blocks",
     "2^27": "pairs",
     "134,217,728": "2^27",
+    **dict.fromkeys(("1,123", "398", "127"), "units of three small mines"),
+    **dict.fromkeys(("0.02", "0.55", "3.65"), "percent that no search of them can close"),
+    **dict.fromkeys(("0.10", "8.1", "10.4", "0.17", "0.08", "1.64"), "percent below their bounds"),
+    **dict.fromkeys(("0.0002", "0.014", "0.46", "0.33", "0.31"), "percent, of 10k"),
 }
 
 

@@ -6,26 +6,23 @@ import { guide, home, screens } from "./screens.js";
 const POLL = 500; // milliseconds between two looks at a run
 const AGAIN = 300; // .. before what didn't reach the desk is asked once more
 const OTHERS = 4; // of these looks each is at what others do, too
-const SHOWN = 6000; // that a message stays
-
+const SHOWN = 6000; // that a message stays, unless it is of something that goes on
 /** What is known of a study that is opened. */
 const opened = study => ({ study, look: null, check: null, rose: null, events: {}, typed: {},
   cells: {}, edits: null, changed: new Set() });
 /** All that is known of the folder and of the open study. */
 export const D = { home: null, naming: null, dropped: null, ...opened(null) };
-
 /** @param {string} id @returns {any} */
 export const byId = id => document.getElementById(id);
 const pause = ms => new Promise(done => { setTimeout(done, ms); });
 /** @returns {string} the name of who sits here */
 const who = () => localStorage.getItem("who") ?? "";
 const root = document.documentElement.dataset; // what is under way, for who tests the desk
-
 /** @param {string} text @param {string} kind */
 export function say(text, kind = "") {
   const line = h("div", { className: `said ${kind}` }, text);
   byId("say").append(line);
-  setTimeout(() => line.remove(), kind === "bad" ? 5 * SHOWN : SHOWN);
+  if (kind !== "on") setTimeout(() => line.remove(), kind === "bad" ? 5 * SHOWN : SHOWN);
   return line;
 }
 
@@ -68,7 +65,6 @@ export const api = (...parts) => D.study && at("api", "studies", D.study.name, .
 /** @param {string} path @param {string} how */
 export const file = (path, how = "") => at("files", D.study.name, path) + how;
 export const link = (...parts) => "#" + at(...parts);
-
 /** @returns {{study: string, screen: string, part: string}} what the address says */
 export function where() {
   const [, study, screen, part] = location.hash.split("/").map(decodeURIComponent);
@@ -76,9 +72,13 @@ export function where() {
 }
 /** @returns {string} the screen that is shown, or the part of it */
 export const here = () => [where().screen, where().part].filter(it => it && it !== "run").join("/");
-
-/** @param {any[]} path @returns {any} the value in study.toml; undefined where there is none */
-export const valueOf = path => path.reduce(stepped, D.study.values ?? {});
+const stands = path => path.reduce(stepped, D.study.values ?? {});
+let sent = []; // changes that are on their way
+/** @param {any[]} path @returns {any} what study.toml has there, or is about to have */
+export function valueOf(path) {
+  const last = sent.findLast(each => same(each.path, path));
+  return last ? last.value ?? undefined : stands(path);
+}
 /** @param {any} v @param {string|number} step by its name in a list of tables @returns {any} */
 export const stepped = (v, step) => (Array.isArray(v) && typeof step === "string"
   ? v.find(each => each.name === step) : v?.[step]);
@@ -88,25 +88,28 @@ let queued = Promise.resolve();
 const wait = more => { root.pending = Number(root.pending ?? 0) + more; };
 /** @param {{path: any[], value: any, was?: any}[]} changes of study.toml; a value of null takes a
  * key out, and what stood there when somebody began to type goes before what stands there now */
-export const change = (...changes) => queue(() => ({
-  changes: changes.map(({ path, value, was = valueOf(path) ?? null }) => ({ path, value, was })),
-}));
+export function change(...changes) {
+  sent = [...sent, ...changes];
+  return queue(() => ({ changes: changes.map(({ path, value, was = stands(path) ?? null }) => (
+    { path, value, was })) }), changes);
+}
 
-/** @param {() => any} body @returns {Promise<any>} */
-export function queue(body) {
+/** @param {() => any} body @param {any[]} changes that it has @returns {Promise<any>} */
+export function queue(body, changes = []) {
   wait(1);
   // one that failed keeps no other one back
-  queued = queued.catch(() => undefined).then(() => write(body)).finally(() => wait(-1));
+  queued = queued.catch(() => undefined).then(() => write(body, changes)).finally(() => wait(-1));
   return queued;
 }
 
-async function write(body) {
+async function write(body, changes) {
   if (!D.study?.text) return undefined;
   const before = new Set(D.study.text.split("\n"));
   const send = () => ask("PATCH", path, asked);
   const [path, asked] = [api(), { ...body(), who: who() }];
   let told = await send();
   for (; told.isGone; told = await send()) await pause(AGAIN); // what was typed waits for the desk
+  sent = sent.filter(each => !changes.includes(each));
   if (told.stale) await reread();
   if (!told.ok) return draw();
   if (told.name !== D.study?.name) return undefined; // the study was left meanwhile
@@ -142,13 +145,10 @@ async function open(name) {
   await draw(); // nothing of another study is left to be pressed
   const told = await reread();
   if (D.study?.name !== name) return;
-  if (told.ok) {
-    await draw();
-    await Promise.all([refresh(), relook()]);
-  } else {
+  if (!told.ok) {
     say(told.errors[0]?.said ?? "", "bad");
     location.hash = "#/";
-  }
+  } else await draw().then(() => Promise.all([refresh(), relook()]));
 }
 
 let isUnread = false; // what the desk couldn't tell is asked again
@@ -163,7 +163,6 @@ async function kept(key, ...path) {
 }
 const reread = () => kept("study");
 const relook = () => kept("look", "look").then(draw); // by the keys of [model]
-
 /** @param {number} which @returns {Promise<any>} a run with all that it has told */
 export async function eventsOf(which) {
   const { list, upto } = D.events[which] ?? { list: [], upto: 0 };
@@ -176,10 +175,8 @@ export async function eventsOf(which) {
 }
 
 /** @param {any} asked as asked.py has it */
-export async function start(asked) {
-  const told = await ask("POST", api("runs"), { ...asked, who: who() });
-  if (told.ok) await reread().then(draw);
-}
+export const start = asked => ask("POST", api("runs"), { ...asked, who: who() })
+  .then(told => told.ok && reread().then(draw));
 
 /** @returns {any} the run that goes on, if one does */
 export const going = () => D.study?.runs?.find(run => run.state === "running");
@@ -209,10 +206,12 @@ async function follow(run) {
 async function pulse(was) {
   const { ok, status, errors, ...beat } = await look(api("pulse"));
   if (!ok || D.study !== was || root.pending > 0 || (same(beat, was.pulse) && !isUnread)) return;
-  const isOther = beat.etag !== was.pulse.etag;
-  if (isOther) say("study.toml was changed, and is read again");
+  const of = { etag: "study.toml", table: "the table" };
+  const others = Object.keys(of).filter(key => beat[key] !== was.pulse[key]);
+  others.forEach(key => say(`${of[key]} was changed, and is read again`));
   await reread().then(draw);
-  if (isOther) await refresh();
+  if (others.includes("table")) await relook();
+  if (others.length) await refresh();
 }
 
 async function watch(n) {
@@ -220,7 +219,6 @@ async function watch(n) {
   if (n % OTHERS === 0 && D.study?.text && !document.hidden && !D.edits) await pulse(D.study);
 }
 const beat = n => watch(n).finally(() => setTimeout(beat, POLL, n + 1));
-
 /** @returns {any[]} all that is wrong, each once, in pitplan's words */
 export function faults() {
   const all = [...(D.study?.outside ?? []), ...(D.check?.errors ?? []), ...(D.rose?.errors ?? []),
@@ -260,17 +258,19 @@ function nav(isStudy) {
 async function toField(section, key) {
   const id = `f.${section}.${key}`;
   if (!byId(id)) location.hash = link(D.study.name, placeOf([section]));
-  await pause(60);
+  await go();
   byId(id)?.scrollIntoView({ block: "center" });
   byId(id)?.querySelector("input,select")?.focus();
 }
 
+const focused = () => document.activeElement?.closest?.(".field");
 /** @returns {any[]} the lines of study.toml, each that has a key with a way to its field */
 function lines() {
-  const bad = new Set(faults().map(f => f.line));
+  const [bad, at] = [new Set(faults().map(f => f.line)), focused()?.id];
   return D.study.lines.map(({ section, key, said, comment }, n) => {
     const classes = [comment && "clip", D.changed.has(n) && "new", bad.has(n + 1) && "wrong",
-      said.trimStart().startsWith("[") && "head", key && "key"];
+      said.trimStart().startsWith("[") && "head", key && "key",
+      key && at === `f.${section}.${key}` && "at"];
     return h("li", { className: classes.filter(Boolean).join(" "), title: comment
       && said.trim() + comment, id: key && `line.${section}.${key}`,
     onclick: key && (() => toField(section, key)) }, said, h("i", comment));
@@ -278,7 +278,8 @@ function lines() {
 }
 
 /** The pane of study.toml: its lines, or its text while somebody edits it. */
-function text(isStudy) {
+function aside() {
+  const isStudy = Boolean(D.study?.text);
   if (isStudy && D.edits && byId("edits")) return; // what is being typed stays
   const [{ edits }, { text: now, pulse: { etag } = {} }] = [D, D.study ?? {}];
   const edit = keep(D, "edits");
@@ -288,7 +289,8 @@ function text(isStudy) {
   h("textarea", { id: "edits", spellcheck: false, value: edits.text,
     "aria-label": "the text of study.toml", oninput: e => { edits.text = e.target.value; } })]
     : [button("Edit as text", () => edit({ text: now, etag }), { id: "edit" }),
-      h("ol", { tabIndex: 0 }, lines())];
+      [h("ol", { tabIndex: 0 }, lines()), h("p.help", focused() && (document.activeElement.title
+        || focused().querySelector(".name").title))]];
   like(byId("text"), nodes(isStudy ? [h("div.bar", h("b", "study.toml"), presses), body] : []));
   const first = D.scrolled !== etag && byId("text").querySelector("li.new");
   if (!first) return;
@@ -297,10 +299,8 @@ function text(isStudy) {
 }
 
 /** Keeps what is chosen, and draws. @param {any} choices @param {string} key @param {Take} read */
-export const keep = (choices, key, read = v => v) => v => {
-  choices[key] = read(v);
-  draw();
-};
+export const keep = (choices, key, read = v => v) => v => Object.assign(choices,
+  { [key]: read(v) }) && draw();
 
 // The id of what drawing took the focus from, until it can have it again.
 let lost = "";
@@ -324,7 +324,7 @@ export async function draw() {
   document.title = isStudy ? `${D.study.name} - pitplan desk` : "pitplan desk";
   top();
   nav(isStudy);
-  text(isStudy);
+  aside();
   const main = byId("main");
   const fresh = nodes(isStudy ? [guide(screen), screens[screen].draw(part)]
     : [isOpening ? tip("is read ...") : D.home ? home() : ""]);
@@ -356,12 +356,8 @@ export async function go() {
 
 byId("skip").onclick = e => { e.preventDefault(); byId("main").focus(); };
 addEventListener("hashchange", go);
-for (const [event, way] of [["focusin", "add"], ["focusout", "remove"]]) {
-  addEventListener(event, e => {
-    const field = e.target.closest?.(".field")?.id;
-    if (field) byId(field.replace("f.", "line."))?.classList[way]("at");
-  });
-}
+// beside a field stand its line and what it says
+for (const event of ["focusin", "focusout"]) addEventListener(event, () => setTimeout(aside));
 // beside a place for files nothing is opened
 const refuse = e => e.target.type === "file" || e.preventDefault();
 for (const event of ["dragover", "drop"]) addEventListener(event, refuse);

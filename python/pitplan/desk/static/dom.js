@@ -3,8 +3,7 @@
 
 /** @typedef {(v: any) => any} Take @typedef {Object<string, any>} Told */
 const isSome = v => v !== undefined && v !== null && v !== false;
-
-/** An element. A key that begins with "on" is a listener; what is none is left out.
+/** An element. A key that begins with "on" is a listener; what is none keeps an empty place.
  * @param {string} what its name, with its classes after dots
  * @param {...any} parts attributes, if any; texts, elements, and lists of them @returns {any} */
 export function h(what, ...parts) {
@@ -20,27 +19,27 @@ export function h(what, ...parts) {
     else if (key in e && key !== "list") e[key] = value;
     else e.setAttribute(key, value === true ? "" : value);
   }
-  e.append(...parts.flat(9).filter(isSome));
+  e.append(...parts.flat(9).map(part => (isSome(part) ? part : document.createComment(""))));
   return e;
 }
 
 /** @param {any[]} list @returns {ChildNode[]} its texts and elements, at one level */
 export const nodes = list => [...h("div", list).childNodes];
-
 /** Makes what is there like what was drawn anew, in place: so a field keeps what is being typed in
  * it, and a page in a frame isn't loaded again. @param {any} old @param {any} fresh */
 function morph(old, fresh) {
   const isOther = ["nodeName", "id", "data"].some(key => old[key] !== fresh[key]);
   if (isOther) return old.replaceWith(fresh);
-  if (old.nodeType === Node.TEXT_NODE) return undefined;
+  if (!old.attributes) return undefined;
   const isTyping = old === document.activeElement && old.defaultValue !== undefined
     && old.value !== old.defaultValue;
+  const isOpened = old.nodeName === "DETAILS" && old.className === fresh.className;
   for (const { name } of [...old.attributes]) {
     if (!fresh.hasAttribute(name) && name !== "open") old.removeAttribute(name);
   }
   for (const { name, value } of fresh.attributes) {
     const isKept = (isTyping && name === "value")
-      || (name === "open" && old.nodeName === "DETAILS"); // who opened it decides
+      || (name === "open" && isOpened); // who opened it decides
     if (!isKept && old.getAttribute(name) !== value) old.setAttribute(name, value);
   }
   for (const key of [...old.listens ?? [], ...fresh.listens ?? []]) old[key] = fresh[key] ?? null;
@@ -98,7 +97,6 @@ export const looks = list => list.length > 0 && h("ul.looks", list);
 export const chip = (kind, text, title) => h("span", { className: `chip ${kind}`, title }, text);
 /** @param {...any} parts boxes and words in a line */
 export const amounts = (...parts) => h("div.amount", parts);
-
 /** A table; its first `words` columns stand left. @param {any[]} names @param {any[][]} rows
  * @param {{words?: number, className?: string, rows?: (n: number) => Told}} how */
 export function table(names, rows, { words = 1, className = "", rows: row } = {}) {
@@ -121,7 +119,6 @@ export const choice = (id, options, now, pick, label) => h("select", { id, "aria
   .map(([value, told]) => h("option", { value, selected: value === now }, told)));
 /** @param {string} id @param {string} label @param {any} box */
 export const labelled = (id, label, box) => h("span.pair", h("label", { htmlFor: id }, label), box);
-
 /** A box for a value that others may change meanwhile. What stood there when typing began goes with
  * what was typed, so that the later of two changes is known; then what was typed stands there.
  * @param {any} seen @param {Told} attributes @param {Take} read @param {Function} take */

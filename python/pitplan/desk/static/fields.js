@@ -19,12 +19,13 @@ const keyOf = (section, name) => keysIn(section).find(k => k.name === name);
 const isTable = v => typeof v === "object" && v !== null && !Array.isArray(v);
 const word = text => text.trim() || null;
 const value = text => (Number.isNaN(Number(text)) ? text.trim() : word(text) && Number(text));
-const unitOf = k => k.unit.replace("{currency}", valueOf(["economics", "currency"]) ?? "$");
-const numbers = text => word(text) && text.split(",").map(value);
+/** Its unit, and before it a large number as it is read. @param {Key} k @param {any} now */
+const unitOf = (k, now) => [now].flat().filter(n => n >= 1e4).map(n => `= ${number(n)} `).join("")
+  + k.unit.replace("{currency}", valueOf(["economics", "currency"]) ?? "$");
+const numbers = text => word(text) && text.split(/;|,\s/.test(text) ? /;|,\s/ : ",").map(value);
 /** @param {any} was what stood there for whoever changes it; what stands there, if undefined */
 export const set = (path, now, was) => !same(was, now) && change({ path, value: now, was });
 const out = (path, title) => small("×", () => set(path, null), title);
-
 /** A box for a number or words. @param {any[]} path @param {Key} key @param {{width?: number,
  *   list?: string, shown?: any, read?: (text: string) => any}} how */
 function input(path, key, { width, list, shown = valueOf(path), read = value } = {}) {
@@ -32,7 +33,8 @@ function input(path, key, { width, list, shown = valueOf(path), read = value } =
   const step = Number.isInteger(path.at(-1)) ? path.at(-1) + 1 : "";
   return box(valueOf(path) ?? null, { id: idOf(path), className: `w${width ?? (isOwn ? 7 : 5)}`,
     list, value: shown ?? "", placeholder: isOwn && typeof key.default !== "object" && key.default,
-    "aria-label": (isOwn || step) && `${key.label} ${step}`, autocomplete: "off" },
+    "aria-label": (isOwn || step) && `${key.label} ${step}`, autocomplete: "off",
+    title: key.section !== path[0] && `${key.label}: ${key.help}` },
   read, (now, was) => set(path, now, was));
 }
 
@@ -45,7 +47,6 @@ function select(path, options, key, empty, read = word) {
     v => set(path, read(v)), path.at(-1) === key.name && key.label);
 }
 
-// Forms by the schema of a kind.
 /** What the keys of a table may be. @type {Object<string, (now: any) => string[]>} */
 const NAMES = {
   rock: now => (isTable(now) && "other" in now ? [] : rocks().length && rocks().length < 12
@@ -59,7 +60,6 @@ const NAMES = {
   currency: () => [...new Set(listNow("metals").map(metal => metal.currency).filter(Boolean))],
 };
 const namesOf = (schema, now) => NAMES[schema.propertyNames.title](now);
-
 /** @param {any} v @param {any} schema @returns {boolean} whether a value is of this form */
 const fits = (v, { type, oneOf, properties, additionalProperties: each }) => (
   properties ? isTable(v) && Object.keys(v).every(key => key in properties)
@@ -115,7 +115,8 @@ function several(path, key, ways) {
 function parts(path, key, schema, end = () => set(path, null)) {
   const { properties, required = [], additionalProperties: each } = schema;
   const now = valueOf(path);
-  if (required.length && !now) return small("say it", () => set(path, start(schema, now, key)));
+  if (required.length && !now) return small(`+ ${key.label.toLowerCase()}`,
+    () => set(path, start(schema, now, key)));
   const has = Object.keys(now ?? {});
   const more = properties ? Object.keys(properties) : namesOf(schema, now);
   const of = name => properties?.[name] ?? each;
@@ -141,7 +142,6 @@ function bearings(path, key, items) {
   small("+", () => set(path, more), "a bearing more")];
 }
 
-// Forms of kinds that have more to say than their schema.
 function regions(path, key) {
   const { region, regions: there = [] } = D.look ?? {};
   const both = (by, now) => change({ path: ["slopes", "by"], value: by }, { path, value: now });
@@ -172,12 +172,15 @@ function fill(path, key) {
   const lists = { rock: rocks(), [domain]: D.look?.region === domain ? D.look?.regions : null };
   const of = name => (lists[name] ? { enum: lists[name] } : { type: "number" });
   const names = ["tonnes", "rock", ...(domain ? [domain] : []), ...Object.keys(now ?? {})];
-  if (!now) return small("say what is in a hole", () => set(path, { tonnes: 10400,
-    rock: rocks()[0] ?? "waste" }));
+  if (!now) return h("small", "is asked for where a hole is rock");
   return amounts(parts(path, key, { properties: Object.fromEntries(names.map(n => [n, of(n)])) }),
     out(path, "take it out"));
 }
 
+/** What columns are of, where their key doesn't say it to a planner. */
+export const CALLED = { id: "id of a block", dx: "length along x", dy: "length along y",
+  dz: "length along z", density: "density, t/m³", class: "resource class",
+  topography: "percent that is rock", ore: "percent that is ore" };
 const FORMS = {
   text: (p, k) => input(p, k, { width: 9, read: word }),
   file: (p, k) => input(p, k, { width: 34, read: word }),
@@ -187,31 +190,29 @@ const FORMS = {
   column: (p, k) => select(p, columns(), k, "none"),
   columns: (path, k) => h("div.grid", k.choices.map(name => {
     const [p, found] = [[...path, name], D.look?.names?.[name]];
-    return labelled(idOf(p), name, select(p, columns(), k, found && !valueOf(p) ? `(${found})`
-      : "none"));
+    return labelled(idOf(p), CALLED[name] ?? name, select(p, columns(), k,
+      found && !valueOf(p) ? `(${found})` : "none"));
   })),
   size: (p, k) => (valueOf(p) ? amounts(form(p, k), out(p, "as the table's columns of sizes say"))
-    : small("say it", () => set(p, D.look?.size ?? k.start))),
+    : small("+ size of a block", () => set(p, D.look?.size ?? k.start))),
   rocks: chosenRocks, formulas: words, words, fill, regions, metals: tables, processes: tables,
 };
 const formOf = (path, key) => (FORMS[key.kind] ?? form)(path, key);
-
-// Lists of tables: metals, and ways to treat a block.
 /** Of each a row with what stands in a line as `init` writes it, and its further keys below.
  * @param {any[]} path @param {Key} list */
 function tables(path, { name: list }) {
   const now = valueOf(path) ?? [];
   const isShort = k => k.is_written && ["text", "number", "choice", "column"].includes(k.kind);
   const [short, long] = [true, false].map(is => keysIn(list).filter(k => isShort(k) === is));
-  const examples = Object.values(D.look?.[list] ?? {}); // of another column, if that was chosen
   const cell = (each, i, k) => [formOf([...path, i, k.name], { ...k,
     label: `${k.label} of ${each.name}`, default: k.default ?? valueOf(["economics", k.name]) }),
-  example(each[k.name], examples.map(one => one[k.name]), k)];
+  example(each[k.name], k)];
   const rows = now.map((each, i) => h("tbody", h("tr", short.map(k => h("td", cell(each, i, k))),
       h("td", (now.length > 1 || list === "processes") && out(
         now.length > 1 ? [...path, i] : path, `take ${each.name} out`))),
     h("tr.second", h("td", { colSpan: 8 }, amounts(long.map(k => labelled(
-      idOf([...path, i, k.name]), [k.label, h("small", ` ${unitOf(k)}`)], cell(each, i, k)))))),
+      idOf([...path, i, k.name]), [k.label, h("small", ` ${unitOf(k, each[k.name])}`)],
+      cell(each, i, k)))))),
     h("tr", h("td", { colSpan: 8 }, faults().filter(f => isOf(f, list, each, i)).map(faultBox)))));
   return h("div", now.length > 0 && h("table.metals", h("thead", h("tr", short.map(k => h("th",
     { title: k.help }, k.label)), h("th"))), rows), list === "processes"
@@ -219,19 +220,21 @@ function tables(path, { name: list }) {
     : D.look?.metals && small("+ a metal, or a penalty", () => addMetal()));
 }
 
-/** Adds a way to treat a block; the first is the mill as it stands there, whose place they take. */
+/** What a process has of the mill, and where that stands. */
+const MILL = { cost: ["economics", "processing"], rocks: ["economics", "mill"],
+  rate: ["shells", "mill_rate"] };
+/** Adds a way to treat a block; the first is the mill as it stands there, with its rate. */
 function addProcess() {
   const [path, now] = [["economics", "processes"], listNow("processes")];
   const name = free(n => `process ${n}`, now.map(each => each.name), now.length + 1);
   if (now.length) return set([...path, now.length], { name, cost: now.at(-1).cost });
-  const was = ["processing", "mill"].map(key => ["economics", key]);
-  const [cost, rocks] = was.map(valueOf);
-  return change({ path, value: [{ name: "mill", ...(rocks && { rocks }), cost }] },
-    ...was.map(each => ({ path: each, value: null })));
+  const taken = Object.entries(MILL).filter(([, at]) => valueOf(at) !== undefined);
+  const mill = Object.fromEntries(taken.map(([key, at]) => [key, valueOf(at)]));
+  return change({ path, value: [{ name: "mill", ...mill }] },
+    ...taken.map(([, at]) => ({ path: at, value: null })));
 }
 
-/** Adds a metal as `pitplan init` writes that of a column: of the next one that none uses, unless
- * it is told. @param {string} column */
+/** Adds a metal as `init` writes it: of a column, or the next unused. @param {string} column */
 async function addMetal(column) {
   const now = listNow("metals");
   const next = Object.keys(D.look.metals).find(c => !now.some(m => m.grade === c)) ?? "GRADE";
@@ -251,13 +254,24 @@ export function unused() {
     small(`add ${D.look.metals[c].name} of ${c}`, () => addMetal(c))));
 }
 
-/** A mark at an example value. @param {any} now @param {any[]} examples @param {any} key */
-function example(now, examples, key) {
-  const title = "as pitplan init writes it: put your own in its place";
-  return ["number", "amount", "angles"].includes(key.kind) && key.section !== "model"
-    && now !== undefined && examples.some(one => same(now, one))
-    && (key.kind === "angles" || !same(now, key.default))
-    && h("span.example", { title }, "example");
+/** @param {Key} key @returns {any[]} what `pitplan init` writes there, of metals for any column */
+const madeUp = ({ section, name }) => (section === "metals"
+  ? Object.values(D.look?.metals ?? {}).map(one => one[name])
+  : [(section === "processes" ? MILL[name] ?? [] : [section, name]).reduce(stepped, D.look?.init)]);
+const isExample = (now, key) => ["number", "amount", "angles"].includes(key.kind)
+  && key.section !== "model" && now !== undefined && madeUp(key).some(one => same(now, one))
+  && (key.kind === "angles" || !same(now, key.default));
+/** A mark at an example value. @param {any} now @param {Key} key */
+const example = (now, key) => isExample(now, key) && h("span.example",
+  { title: "as pitplan init writes it: put your own in its place" }, "example");
+
+/** What is still an example, before it is built of. */
+export function examples() {
+  const found = D.home.keys.flatMap(k => (["metals", "processes"].includes(k.section)
+    ? listNow(k.section).filter(it => isExample(it[k.name], k))
+      .map(it => `${k.label} of ${it.name}`)
+    : isExample(valueOf([k.section, k.name]), k) ? [k.label] : []));
+  return found.length > 0 && look(`Still examples, and not yours: ${found.join(", ")}.`);
 }
 
 /** Whether an error is of one of the own fields of a table in a list of them. */
@@ -267,13 +281,17 @@ const isOf = (f, section, each, i) => f.key?.length > 3 && f.key[1] === section
 /** @param {any} remedy as `Remedy.as_data` has it @returns {any} a button that puts it in */
 export function mend(remedy) {
   if (!remedy || !D.study?.values) return null;
-  const { key: path, value: right, other, adds, when: title } = remedy;
+  const { key: path, value: right, other, adds, when: title, also } = remedy;
   const had = valueOf(path);
   const now = adds && Array.isArray(had) ? [...new Set([...had, ...right])] : right;
-  return (other === null ? [now] : [now, other]).map(v => button(
-    `put it in: ${path.at(-1)} = ${JSON.stringify(v)}`, () => change({ path, value: v }).then(
-      () => document.activeElement === document.body && byId(idOf(placed(path)))?.focus()),
-    { className: "small mend", title }));
+  const put = (value, more) => {
+    const changes = [{ path, value }, ...more.map(it => ({ path: it.key, value: it.value }))];
+    const said = changes.map(it => `${it.path.at(-1)} = ${JSON.stringify(it.value)}`).join(", ");
+    return button(value === null ? `take ${path.at(-1)} out` : `put it in: ${said}`,
+      () => change(...changes).then(() => document.activeElement === document.body
+        && byId(idOf(placed(path)))?.focus()), { className: "small mend", title });
+  };
+  return [put(now, also), other !== null && put(other, [])];
 }
 
 // What an advice says to who has a command line and the file, and what to who has the desk.
@@ -305,15 +323,15 @@ function rowsAbout(fault) {
 
 /** @param {Key} k @returns {any} its field */
 function field(k) {
-  const path = [k.section, k.name];
+  const [path, now] = [[k.section, k.name], valueOf([k.section, k.name])];
   const isWithin = f => FORMS[k.kind] === tables
     && listNow(k.name).some((each, i) => isOf(f, k.name, each, i));
   const own = faults().filter(f => same(f.key?.slice(0, 2), path) && !isWithin(f));
-  const title = `[${k.section}] ${k.name}: ${k.help}`;
+  const title = `${k.label}: ${k.help.replace(/`/g, "")}`;
   return h("div", { className: `field k-${k.kind}`, id: `f.${path.join(".")}` },
     h("label.name", { htmlFor: idOf(path), title }, k.label),
-    h("div.value", formOf(path, k), " ", h("small.unit", unitOf(k)),
-      example(valueOf(path), [path.reduce(stepped, D.look?.init)], k)), own.map(faultBox));
+    h("div.value", formOf(path, k), " ", h("small.unit", unitOf(k, now)), example(now, k)),
+    own.map(faultBox));
 }
 
 /** @param {string} section @param {(name: string) => boolean} isOne @returns {any[]} its fields */
@@ -327,7 +345,7 @@ export function banner() {
   const isElsewhere = f => f.key?.length && placeOf(f.key) !== here();
   const places = faults().filter(isElsewhere).map(f => placeOf(f.key));
   const count = place => counted(places.filter(other => other === place).length, "error");
-  return [faults().filter(f => !isElsewhere(f) && !keyOf(...f.key ?? [])).map(faultBox),
+  return h("div", faults().filter(f => !isElsewhere(f) && !keyOf(...f.key ?? [])).map(faultBox),
     [...new Set(places)].map(place => look(`${count(place)} on `,
-      h("a", { href: link(D.study.name, place) }, labelOf(place))))];
+      h("a", { href: link(D.study.name, place) }, labelOf(place)))));
 }

@@ -32,7 +32,6 @@ export const byYears = words => D.study.state.schedule && tick("by.years", words
   keep(by, "schedule"));
 /** @returns {{schedule?: boolean}} what the box adds to what is asked for */
 export const years = () => (by.schedule && D.study.state.schedule ? { schedule: true } : {});
-
 /** What stands above results that study.toml doesn't give any more, and above a file that the
  * latest run hasn't made. @param {(f: any) => boolean} isOne @returns {any[]} */
 export function before(isOne) {

@@ -3,7 +3,8 @@ import { amounts, at, button, card, chip, choice, entry, h, having, labelled, lo
   size, small, table, tick, tip, when } from "./dom.js";
 import { D, agreed, api, ask, byId, draw, faults, file, go, keep, link, queue, say,
   tab } from "./desk.js";
-import { banner, datalist, faultBox, fields, mend, set, unused } from "./fields.js";
+import { CALLED, banner, datalist, examples, faultBox, fields, mend, set,
+  unused } from "./fields.js";
 import { before, boxes, byYears, chipOf, framed, linesOf, logOf, nameOf, numbersIn, pictures,
   runner, runsOf, years } from "./runs.js";
 
@@ -11,11 +12,10 @@ import { before, boxes, byYears, chipOf, framed, linesOf, logOf, nameOf, numbers
 const oneOf = (id, one, own, key) => tick(id, one, own[key].includes(one),
   keep(own, key, is => having(own[key], one, is)));
 
-// Home: tables and studies.
 /** Takes a file to the server. @param {File} dropped @param {string} path
  * @param {(told: any) => any} then @param {string} how "?over=1" in place of one that is there */
 async function send(dropped, path, then, how = "") {
-  const line = say(`${dropped.name}, ${size(dropped.size)}, is on its way`);
+  const line = say(`${dropped.name}, ${size(dropped.size)}, is on its way`, "on");
   const told = await ask("PUT", path + how, dropped, { raw: true, quiet: true });
   D.dropped = told.ok ? null : { ...told, again: () => send(dropped, path, then, "?over=1") };
   if (told.ok) await then(told);
@@ -37,8 +37,11 @@ function dropPlace(words, ends, take) {
     failed.again, { id: "over" })]];
 }
 
-const taken = dropped => send(dropped, at("api", "tables", dropped.name),
-  () => begin({ table: dropped.name }));
+/** A table in place of one that has a study leads there. @param {File} dropped */
+const taken = dropped => send(dropped, at("api", "tables", dropped.name), () => (
+  D.home.studies.some(s => s.name === studyOf(dropped.name))
+    ? void (location.hash = link(studyOf(dropped.name))) : begin({ table: dropped.name })));
+const studyOf = table => table.replace(/(\.csv)?(\.gz)?$/i, "");
 async function begin(asked) {
   const told = await ask("POST", "/api/studies", asked, { quiet: true });
   D.naming = told.study ? null : { ...asked, ...told };
@@ -50,9 +53,9 @@ async function begin(asked) {
 function naming() {
   const n = D.naming;
   n.columns = { ...n.found, ...n.near, ...n.columns };
-  const box = key => labelled(`n.${key}`, key, choice(`n.${key}`, ["", ...n.header],
+  const box = key => labelled(`n.${key}`, CALLED[key] ?? key, choice(`n.${key}`, ["", ...n.header],
     n.columns[key] ?? "", keep(n.columns, key)));
-  n.name ??= n.table.replace(/(\.csv)?(\.gz)?$/i, "");
+  n.name ??= studyOf(n.table);
   const goOn = () => begin({ table: n.table, name: n.name, encoding: n.encoding,
     columns: Object.fromEntries(Object.entries(n.columns).filter(([key, name]) => name
       && name !== n.known?.[key])) });
@@ -68,7 +71,7 @@ const copy = name => ask("POST", "/api/studies", { copy: name }).then(go);
 export function home() {
   const studies = D.home.studies.map(s => [h("a", { href: link(s.name) }, s.name), chip(...s.said),
     s.blocks ? number(s.blocks) : "", s.pit ? number(s.pit) : "",
-    s.worth ? `${number(s.worth / 1e6, 1)} M ${s.currency}` : "", when(s.when),
+    s.worth ? `${number(s.worth / 1e6, 1)} million ${s.currency}` : "", when(s.when),
     small("copy", () => copy(s.name), `copy ${s.name}`)]);
   const tables = D.home.tables.map(t => [t.path, size(t.bytes), when(t.when),
     small("begin a study", () => begin({ table: t.path })),
@@ -83,13 +86,11 @@ export function home() {
 
 /** @param {string} name @returns {any} a text that stands in the page */
 const written = name => byId(`text.${name}`)?.content.cloneNode(true);
-
-// The table.
 const MODEL = ["columns", "tonnes", "units", "size", "rotation", "absent", "z"];
 const paint = { by: null };
 /** @param {string} src of a picture that the server draws @param {string} alt */
-const drawing = (src, alt, className = "ground") => h("img", { className, alt,
-  src: `${src}of=${D.study.pulse.etag}` });
+const drawing = (src, alt, className = "ground") => h("div.drawn", h("img", { className, alt,
+  src: `${src}of=${D.study.pulse.etag}${encodeURIComponent(D.study.pulse.table)}` }));
 const ground = (what, alt) => drawing(`${api("ground")}?what=${encodeURIComponent(what)}&`, alt);
 
 function tableScreen() {
@@ -109,7 +110,7 @@ function tableScreen() {
     card("What is what", fields("model", n => MODEL.includes(n)), seen?.differs?.length > 0 && look(
       "The table looks otherwise: ", seen.differs.map(([key, found]) => small(
         `${key} = ${JSON.stringify(found)}`, () => set(["model", key], found)))),
-    h("details", isOpen ? { open: true, id: "folded.wrong" } : { id: "folded" },
+    h("details", { id: "folded", open: isOpen, className: isOpen ? "wrong" : "" },
       h("summary", "Holes, sub-blocks, edges, the file's spelling"), fields("model", isFolded)))),
     h("div", isRead ? [card("The ground", ground("ground", "elevation of the ground")),
       by && card(h("label", "From above: ", choice("paint", paints, paint.by, keep(paint, "by"))),
@@ -126,7 +127,6 @@ const columnsOf = ({ columns, marks }) => card("Columns",
     "no number", "words"], columns.map(c => [c.name, h("b", c.is), ...c.told]),
   { words: 2, className: "columns" }));
 
-// Prices and costs, with what they make of the ground.
 const COSTS = ["mining", "processing", "processes"];
 function money() {
   const { tonnage: t, looks: all = [], forbidden, blocks } = D.check ?? {};
@@ -144,7 +144,6 @@ function money() {
   card("Mill, and what may not be dug", fields("economics", isOther))];
 }
 
-// Slopes, with the rose.
 /** The walls as they are asked for and built. @param {any} rose as `work.rose` tells it */
 function walls({ names, rows, said, looks: all }) {
   const heads = names.map(name => name.replace(/^.* (built|error)$/, "$1"));
@@ -161,7 +160,6 @@ const slopes = () => [banner(), card("What is asked for", fields("slopes")),
   card("The same as a table and a picture", runner("slopes", "Write them", { what: "slopes" })),
   runsOf("slopes")];
 
-// Build, and the pits.
 const asks = { certificates: false };
 function build() {
   const factors = D.check?.factors ?? [];
@@ -170,14 +168,13 @@ function build() {
   return [banner(), card("Series of pits", fields("shells"),
     factors.length > 0 && tip(`${factors.length} pits, at `, factors.map(f => f / 1000).join(", "),
       " of the price. Rates are for the discounted cases alone.")), card("Run", old && look(old),
-    runner("all", "Build, and find the pits", { what: "all", ...more }, { main: true }),
+    examples(), runner("all", "Build, and find the pits", { what: "all", ...more }, { main: true }),
     runner("build", "Build", { what: "build" }),
     runner("shells", "Find the pits", { what: "shells", ...more }, { needs: true }),
     boxes(asks, { certificates: "with certificates, for an auditor: slower" })),
   runsOf("build", "shells", "all")];
 }
 
-// The plan by years of the best pit.
 const ends = { gap: "", minutes: "", mining_width: "" };
 const plan = () => [banner(), card("Terms of the plan", fields("schedule")),
   needed() || card("Run", boxes(ends, {
@@ -236,7 +233,6 @@ const PARTS = { run: ["Build and find", build], years: ["Plan by years", plan],
 const pits = (part = "run") => [h("div.tabs", Object.entries(PARTS).map(([key, [label]]) => tab(
   `part.${key}`, ["pits", key], label, key === part))), PARTS[part]?.[1]() ?? ""];
 
-// What is asked of proved pits: pushbacks, designs, what-ifs; and all that was run.
 /** What stands in place of a screen that needs pits. */
 const needed = () => (!D.study.state.there || D.study.state.old) && card(null, tip(
   "This needs proved pits: ", h("a", { href: link(D.study.name, "pits") },
@@ -276,7 +272,7 @@ const chosen = { names: ["price", "recovery", "slope"] };
 function whatIf() {
   const { schedule, risk } = D.study.state;
   const box = (name, i) => entry(`if.${name}.${i}`, IFS[name][i], keep(IFS[name], i, Number),
-    { className: "w4", "aria-label": `${name} ${i ? "to" : "from"}` });
+    { className: "w5", "aria-label": `${name} ${i ? "to" : "from"}` });
   const names = Object.keys(IFS).filter(name => name !== "sink" || years().schedule);
   const rows = names.map(name => [oneOf(`if.${name}`, name, chosen, "names"), box(name, 0),
     box(name, 1), IFS[name][2]]);
