@@ -80,19 +80,19 @@ class _OutOfRange(SlopeError):
     """A slope that is no slope in degrees."""
 
     def __init__(self, angle: float) -> None:
-        self.advice = in_degrees(angle)
+        self.advice = _in_degrees(angle)
         super().__init__(
             "a slope is from %g to %g degrees from the horizontal; there is %g"
             % (_FLATTEST, _STEEPEST, angle)
         )
 
 
-def in_degrees(angle: float) -> str:
+def _in_degrees(angle: float) -> str:
     """What a slope out of range is in degrees, by the units that it may be in; "" where it is none.
 
-    >>> in_degrees(0.77)
+    >>> _in_degrees(0.77)
     '44.1 for 0.77, if it is in radians; or 37.6, if it is a rise over a run'
-    >>> in_degrees(110), in_degrees(-3)
+    >>> _in_degrees(110), _in_degrees(-3)
     ('47.7 for 110, if it is a rise in percent', '')
     """
     rise, by_percent = (math.degrees(math.atan(part)) for part in (angle, angle / 100))

@@ -39,8 +39,8 @@ def thousandths(share: float) -> int:
         or not abs(share) < float("inf")
     ):
         raise PlanError(f"a factor is {share!r}, and has to be a share of the price, as 0.85")
-    found = round(float(share) * THOUSAND)
-    if abs(found - share * THOUSAND) > 1e-6 or not 0 <= found <= LARGEST_FACTOR:
+    found = round(float(share) * THOUSAND) if 0 <= share <= LARGEST_FACTOR else -1
+    if not 0 <= found <= LARGEST_FACTOR or abs(found - share * THOUSAND) > 1e-6:
         hint = share_text(share) if LARGEST_FACTOR / THOUSAND < share <= LARGEST_FACTOR else None
         raise PlanError(
             (

@@ -562,6 +562,8 @@ def _better_series(found: Any) -> Remedy | None:
         else (1000, "if these are in thousandths")
     )
     shares = [float(f"{found[key] / times:.9g}") for key in keys]
+    if not is_series and _are_from_to_by(shares):
+        is_series, keys, when = True, value_kinds.SERIES, when or "for a series"
     if is_series:
         low, high, step = min(shares[:2]), max(shares[:2]), abs(shares[2])
         step = step if step <= high - low else step / 100
@@ -574,3 +576,16 @@ def _better_series(found: Any) -> Remedy | None:
     except PlanError:
         return None
     return Remedy(("shells", "factors"), better, when)
+
+
+def _are_from_to_by(shares: Sequence[float]) -> bool:
+    """Whether three factors that don't ascend can be meant as the first, the last and the step of a
+    series.
+
+    >>> _are_from_to_by([0.3, 1.2, 0.05]), _are_from_to_by([0.5, 0.8, 0.2])
+    (True, False)
+    """
+    if len(shares) != 3 or not 0 < shares[2] < shares[0] < shares[1]:
+        return False
+    steps = (shares[1] - shares[0]) / shares[2]
+    return round(steps) >= 2 and abs(steps - round(steps)) < 1e-6

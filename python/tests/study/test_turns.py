@@ -199,7 +199,7 @@ def test_an_error_is_an_event_with_its_key_and_line(tmp_path):
     wrong = [event for event in found if event["event"] == "error"]
     assert [(event["key"], event["line"]) for event in wrong] == [
         (["economics", "minning"], 6),
-        (["economics"], 5),
+        (["economics", "mining"], 5),
     ]
     assert found[-1] == {**found[-1], "event": "end", "status": 3}
     assert "ended with status 3 at" in last_run.last_line(folder)
