@@ -601,16 +601,16 @@ class Blocks:
     """
 
     def __init__(self) -> None:
-        told = looked_at(
+        settings = looked_at(
             "model/settings.toml:",
             toml_of("model/settings.toml"),
             SETTINGS,
             [*COLUMNS, "slopes", "up"],
         )
-        self.slopes: list[list[list[int]]] = told["slopes"]
-        self.column: int | None = told.get("region")
-        listed = ways_in(told)
-        mining, tonnes = (3 + told[name] for name in COLUMNS)
+        self.slopes: list[list[list[int]]] = settings["slopes"]
+        self.column: int | None = settings.get("region")
+        listed = ways_in(settings)
+        mining, tonnes = (3 + settings[name] for name in COLUMNS)
         rows: dict[int, list[str]] = {}
         with open(within("model/mine.blocks"), encoding="ascii", errors="replace") as file:
             for n, line in enumerate(file, 1):
@@ -687,12 +687,12 @@ class Blocks:
         return worths.index(best) + 1 if best > 0 else 0
 
 
-def ways_in(told: dict[str, Any]) -> list[tuple[int, int]]:
+def ways_in(settings: dict[str, Any]) -> list[tuple[int, int]]:
     """Where a row of mine.blocks, without its number, has revenue and processing of each way."""
-    ways = told.get("ways")
+    ways = settings.get("ways")
     if ways is None:
-        ways = [looked_at("model/settings.toml:", told, WAY, list(WAY))]
-    elif set(WAY) & set(told):
+        ways = [looked_at("model/settings.toml:", settings, WAY, list(WAY))]
+    elif set(WAY) & set(settings):
         raise Bad("model/settings.toml has ways, and revenue or processing beside them")
     return [(3 + way["revenue"], 3 + way["processing"]) for way in ways]
 

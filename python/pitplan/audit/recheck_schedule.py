@@ -145,14 +145,14 @@ def read_mine() -> Mine:
 
 def read_periods(mine: Mine) -> Periods:
     """What schedule/ says of the periods, each number in its range."""
-    told = tomllib.loads((HERE / "schedule/periods.toml").read_text())
+    stated = tomllib.loads((HERE / "schedule/periods.toml").read_text())
     terms = json.loads((HERE / "schedule/terms.json").read_text())
-    weights, count = told["weights"], len(told["weights"])
+    weights, count = stated["weights"], len(stated["weights"])
     resources = 1 + len(mine.blocks.amounts[0].ways)
     need(all(a >= b for a, b in zip(weights, weights[1:])), "weights don't fall")
     need(min(weights) >= 0, "a weight is below 0")
     for name in ("capacities", "multipliers"):
-        rows = told[name]
+        rows = stated[name]
         need(
             [len(row) for row in rows] == [count] * resources,
             f"{name} aren't of {resources} resources",
@@ -168,8 +168,8 @@ def read_periods(mine: Mine) -> Periods:
     unit = {int(b): int(u) for b, u in words_of(HERE / "schedule/units.txt")}
     return Periods(
         weights,
-        told["capacities"],
-        told["multipliers"],
+        stated["capacities"],
+        stated["multipliers"],
         uses,
         unit,
         terms["sink"],
@@ -213,11 +213,11 @@ def sinking(mine: Mine, periods: Periods) -> Rows:
 def check_waits(periods: Periods, lagged: Rows) -> None:
     """What schedule/ tells pit of the sink rate: for how many periods blocks wait, and in a column
     behind the uses for which block each does, its own number where for none."""
-    told, uses = tomllib.loads((HERE / "schedule/periods.toml").read_text()), len(periods.uses)
+    stated, uses = tomllib.loads((HERE / "schedule/periods.toml").read_text()), len(periods.uses)
     columns = [] if periods.sink is None else [uses]
-    need(told.get("waits", []) == columns, "periods.toml hasn't the column of the sink rate")
+    need(stated.get("waits", []) == columns, "periods.toml hasn't the column of the sink rate")
     lag = periods.lag if columns else None
-    need(told.get("lag") == lag, "periods.toml hasn't the lag of the sink rate")
+    need(stated.get("lag") == lag, "periods.toml hasn't the lag of the sink rate")
     for block, words in enumerate(words_of(HERE / "schedule/uses.blocks")):
         waits = list(map(int, words[4 + uses :]))
         ours = (lagged[block] or [block]) if columns else []
@@ -668,13 +668,13 @@ def check_uses(mine: Mine, periods: Periods, worked: list[recheck.Worked | None]
             for number, way in enumerate(ways, 1)
         ]
         rock = row.tonnes if row else mine.blocks.tonnes[block]
-        for name, told, ours in zip(
+        for name, kept, ours in zip(
             resources_of(ways), (uses[block] for uses in periods.uses), [rock, *fed]
         ):
             off = 0.5 + 1e-6 + 1e-9 * ours * THOUSAND
             need(
-                abs(told - ours * THOUSAND) <= off,
-                f"block {block} uses {told} of {name}, and by the table {ours * THOUSAND:.3f}",
+                abs(kept - ours * THOUSAND) <= off,
+                f"block {block} uses {kept} of {name}, and by the table {ours * THOUSAND:.3f}",
             )
 
 
@@ -726,10 +726,10 @@ def is_line(
 ) -> bool:
     """Whether a line of a table has these blocks, its cash flow less a fixed cost."""
     worth = str(Decimal(line.word("cash_flow")) + fixed)
-    told = line._replace(cells={**line.cells, "worth": worth})
+    paid = line._replace(cells={**line.cells, "worth": worth})
     off = 6e-4 * (1 + found.blocks)
     return (
-        found.is_line(told, False, ways, metals)
+        found.is_line(paid, False, ways, metals)
         and recheck.is_close(line.number("feed_t"), sum(found.fed(ways)), 2 * off)
         and (
             line.word("strip") == ""
@@ -805,9 +805,9 @@ def check_sink(line: recheck.Line, what: str, kept: list[tuple[int, ...]], grid:
         need(not any(map(line.word, cells)), f"{what}: sink_bench")
         return False
     low = min(z for _, _, z in kept)
-    told = [line.number(cell) for cell in cells]
+    at = [line.number(cell) for cell in cells]
     need(
-        any(math.dist(told, world(place, grid)) < 1e-3 for place in kept if place[2] == low),
+        any(math.dist(at, world(place, grid)) < 1e-3 for place in kept if place[2] == low),
         f"{what}: sink_bench",
     )
     return True
