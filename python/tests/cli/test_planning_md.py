@@ -3,7 +3,7 @@
 In a document's indented blocks a line `$ words` is a command, and the lines below it are what it prints; `..` stands for
 anything, in a line or in place of lines. What `$ cat FILE` shows of a text of one's own is written to FILE.
 
-    python3 python/tests/cli/test_planning_md.py --rewrite
+    PIT=out/pit PYTHONPATH=python/tests/support python3 python/tests/cli/test_planning_md.py --rewrite
 
 puts what the commands print now in place of what the document shows, but for lines with `..`; read the difference.
 """
