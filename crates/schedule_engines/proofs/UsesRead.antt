@@ -1,5 +1,5 @@
 -- What blocks use and for which they wait, by the columns of a model that was read of a text.
-use Rattle.fixed_worth.proofs.Common.{◌≡◌, ℕ, zero, suc, Option, Some, None, Result, Ok, Err, MatchResult, IfSome, ◌+◌, ◌*◌, ◌/◌, ◌%◌, ◌<◌, ◌≤◌, ℤ, pos, ◌<ℤ◌, unsigned_abs, List, [], ◌∷◌, ◌++◌, length, get_or, slice_index, inl, inr, refl, sym, ap, ap₂, subst, ◌∙◌, arith, ints, add-one, cases_lt, div-mul-add, mul-le, length-append, get_or_append_left, get_or-append-add}
+use Rattle.fixed_worth.proofs.Common.{◌≡◌, ℕ, zero, suc, Option, Some, None, Result, Ok, Err, MatchResult, IfSome, ◌+◌, ◌*◌, ◌/◌, ◌%◌, ◌<◌, ◌≤◌, ℤ, pos, ◌<ℤ◌, unsigned_abs, List, [], ◌∷◌, ◌++◌, length, get_or, slice_index, inl, inr, refl, sym, ap, ap₂, subst, ◌∙◌, arith, ints, add-one, cases_lt, div-add-mod', div-mul-add, mul-le, length-append, get_or_append_left, get_or-append-add}
 use Rattle.std.proofs.lemmas.Nat.{mod-mul-add, mod_below, div_below}
 use Rattle.prec_file.specs.Rests.{ArePairsOf, RestsView}
 use Rattle.blocks_file.specs.Denotes.{BlocksView}
@@ -12,7 +12,7 @@ use Rattle.schedule_engines.specs.declared.schedule_fault.PeriodsProblem.TheVari
 use Rattle.schedule_engines.specs.declared.schedule_fault.PlanFault.{PlanFault}
 use Rattle.schedule_engines.specs.declared.schedule_fault.PlanFault.TheVariants as plan
 use Rattle.schedule_engines.specs.declared.uses.Uses.{Uses}
-use Rattle.schedule_engines.specs.Prelude.{AreUses, HasWaits, IsBlock, ReadsUses, UsesFail, UsesWrong, first_pairs, use_in}
+use Rattle.schedule_engines.specs.Prelude.{AllAre, AreUses, HasWaits, IsBlock, IsFirstWrong, IsUse, ReadsUses, UsesFail, UsesWrong, WaitsWrong, first_pairs, in_columns, use_in}
 
 -- ---- the number of a block
 
@@ -33,6 +33,46 @@ too_high n size z is h x =
     let q : size / 1000000 ≡ (x.0 * 1000000 + 0) / 1000000 = ap (λ (k : ℕ). k / 1000000) (omega (arith, e)) in
     let low = x.1 in
     omega (arith, d, q, h, low)
+
+-- ---- the first wrong number
+
+-- the number at a place of a row is among all of them
+in_rows : (r b n m : ℕ) → r < m → b < n → r * n + b < m * n
+in_rows r b n m l k =
+    let rows : suc r * n ≤ m * n = mul-le (suc r) n m n (omega (arith, l)) (omega arith) in
+    omega (arith, rows, k)
+
+-- where all numbers before it are as wanted, this is the first that isn't
+pub first_wrong : (Such : ℤ → Type 0) (at : ℕ → ℕ → ℤ) (columns n i : ℕ) → i < columns * n → ¬ (Such (at (i / n) (i % n))) → ((k : ℕ) → k < i → Such (at (k / n) (k % n))) → IsFirstWrong Such at columns n (i / n) (i % n)
+first_wrong Such at columns n i inside wrong before =
+    let some : 0 < n = some_blocks n columns i inside in
+    record {
+      column = div_below i n columns some inside;
+      block = mod_below i n some;
+      wrong = wrong;
+      before = λ j a _ low l.
+          let whole : i / n * n + i % n ≡ i = div-add-mod' i n in
+          let same : at ((j * n + a) / n) ((j * n + a) % n) ≡ at j a = ap₂ at (div-mul-add j n a low) (mod-mul-add j n a low) in
+          subst Such same (before (j * n + a) (omega (arith, l, whole)));
+    }
+
+-- numbers that are amounts of uses are none below zero
+pub is_use : (u : ℕ) (z : ℤ) → pos u ≡ z → IsUse z
+is_use u z is = omega (arith, ints, is)
+
+-- where a wrong number is one of waits, the uses before are right
+pub waits_wrong : (m : BlocksView) (resources waits n : ℕ) (uses : List ℕ) (e : PlanFault) → m.blocks ≡ n → AreUses m resources uses → WaitsWrong m resources waits n e → UsesWrong m resources waits n e
+waits_wrong m resources waits n uses (plan.Periods (period_problem.UnknownWait c b)) same are wrong = (
+  same,
+  λ j a l k.
+      let low : a < m.blocks = omega (arith, k, same) in
+      let row : (j * m.blocks + a) / m.blocks ≡ j = div-mul-add j m.blocks a low in
+      let place : (j * m.blocks + a) % m.blocks ≡ a = mod-mul-add j m.blocks a low in
+      is_use (slice_index uses (j * m.blocks + a)) (use_in m j a) (are.each (j * m.blocks + a) (in_rows j a m.blocks resources l low) ∙ ap₂ (use_in m) row place),
+  wrong,
+)
+waits_wrong m resources waits n uses (plan.Engine engine.Memory) same are wrong = tt
+waits_wrong m resources waits n uses _ same are wrong = absurd wrong
 
 -- ---- the pairs of blocks that wait, number by number
 
@@ -62,12 +102,6 @@ has_waits m first count n i listed rests same end is known size pairs = record {
 }
 
 -- ---- columns of a text and of its model
-
--- the number at a place of a row is among all of them
-in_rows : (r b n m : ℕ) → r < m → b < n → r * n + b < m * n
-in_rows r b n m l k =
-    let rows : suc r * n ≤ m * n = mul-le (suc r) n m n (omega (arith, l)) (omega arith) in
-    omega (arith, rows, k)
 
 -- two ways to read numbers that agree list the same pairs
 pairs_alike : (n : ℕ) (f g : ℕ → ℕ → ℤ) (k : ℕ) → ((i : ℕ) → i < k → f (i / n) (i % n) ≡ g (i / n) (i % n)) → first_pairs n f k ≡ first_pairs n g k
@@ -114,15 +148,25 @@ module _ (n : ℕ) (columns waits text : List ℕ) (m : BlocksView) (h : ReadsBl
         };
       }
 
+  -- the first wrong number of a model is that of its text
+  alike : (Such : ℤ → Type 0) (at to : ℕ → ℕ → ℤ) (count k b : ℕ) → ((j a : ℕ) → j < count → a < n → at j a ≡ to j a) → IsFirstWrong Such at count n k b → IsFirstWrong Such to count n k b
+  alike Such at to count k b same first = record {
+    column = first.column;
+    block = first.block;
+    wrong = λ x. first.wrong (subst Such (sym (same k b first.column first.block)) x);
+    before = λ j a column low l. subst Such (same j a column low) (first.before j a column low l);
+  }
+
   -- what is wrong with the columns of a model is wrong with the text that it is read of
   pub uses_wrong : (e : PlanFault) → UsesWrong m (length columns) (length waits) n e → UsesFail n columns waits text e
   uses_wrong (plan.Periods period_problem.BlockCount) wrong = (h.0, h.1, λ is. wrong (h.2.count ∙ is))
   uses_wrong (plan.Periods (period_problem.NegativeUse r b)) wrong =
-      let k : b < m.blocks = omega (arith, wrong.0, wrong.2) in
-      (h.0, h.1, sym h.2.count ∙ wrong.0, wrong.1, wrong.2, subst (λ (z : ℤ). z <ℤ pos 0) (use_cell r b wrong.1 k) wrong.3)
+      let same = sym h.2.count ∙ wrong.0 in
+      ((h.0, h.1, same), alike IsUse (use_in m) (in_columns columns text) (length columns) r b (λ j a l k. use_cell j a l (omega (arith, k, wrong.0))) wrong.1)
   uses_wrong (plan.Periods (period_problem.UnknownWait c b)) wrong =
-      let k : b < m.blocks = omega (arith, wrong.0, wrong.2) in
-      (h.0, h.1, sym h.2.count ∙ wrong.0, wrong.1, wrong.2, λ x. wrong.3 (subst (λ (z : ℤ). IsBlock n z) (sym (wait_cell c b wrong.1 k)) x))
+      let same = sym h.2.count ∙ wrong.0 in
+      let uses : AllAre IsUse (in_columns columns text) (length columns) n = λ j a l k. subst IsUse (use_cell j a l (omega (arith, k, wrong.0))) (wrong.1 j a l k) in
+      ((h.0, h.1, same), uses, alike (IsBlock n) (λ k a. use_in m (length columns + k) a) (in_columns waits text) (length waits) c b (λ j a l k. wait_cell j a l (omega (arith, k, wrong.0))) wrong.2)
   uses_wrong (plan.Engine engine.Memory) wrong = tt
   uses_wrong _ wrong = absurd wrong
 

@@ -1,5 +1,5 @@
 -- Reading the texts of periods, of what blocks use, and of a schedule, as an engine does.
-use Rattle.std.specs.Prelude.{◌≡◌, ◌⊎◌, ℕ, ◌+◌, ◌*◌, ◌<◌, pos, ◌<ℤ◌, List, ◌++◌, length, slice_index, Some, None, Ok, Err}
+use Rattle.std.specs.Prelude.{◌≡◌, ◌⊎◌, ℕ, ◌+◌, ◌*◌, ◌<◌, ℤ, pos, List, ◌++◌, length, slice_index, Some, None, Ok, Err}
 use Rattle.prec_file.specs.Rests.{RestsView}
 use Rattle.blocks_file.specs.Denotes.{BlocksView}
 use Rattle.blocks_file.specs.Records as blocks
@@ -11,7 +11,7 @@ use Rattle.schedule_engines.specs.declared.schedule_fault.PeriodsProblem.TheVari
 use Rattle.schedule_engines.specs.declared.schedule_fault.ScheduleProblem.TheVariants as schedule_problem
 use Rattle.schedule_engines.specs.declared.schedule_fault.PlanFault.{PlanFault}
 use Rattle.schedule_engines.specs.declared.schedule_fault.PlanFault.TheVariants as plan
-use Rattle.schedule_engines.specs.Uses.{AreWaits, IsBlock, use_in}
+use Rattle.schedule_engines.specs.Uses.{AllAre, AreWaits, IsBlock, IsFirstWrong, IsUse, use_in}
 
 -- the text isn't too long, and says this of periods
 abbrev pub ReadsPeriodsText : List ℕ → PeriodsView → Type 0
@@ -50,23 +50,38 @@ ScheduleTextFails n periods text (plan.Engine engine.Memory) = Unit {0}
 ScheduleTextFails n periods text (plan.Engine engine.Device) = Unit {0}
 ScheduleTextFails n periods text _ = ⊥
 
+-- the text isn't too long, has these columns without a fault, and is of n blocks
+abbrev pub AreBlocksOf : ℕ → (columns text : List ℕ) → Type 0
+AreBlocksOf n columns text = IsWithinLimit text × (blocks.fault_of columns text ≡ None) × (blocks.record_count_of text ≡ n)
+
+-- the number of block b in the k-th of these columns of a text
+abbrev pub in_columns : (columns text : List ℕ) → ℕ → ℕ → ℤ
+in_columns columns text k b = cell text (slice_index columns k) b
+
 -- the columns of a model, so many of resources and so many of blocks that wait, are none of n blocks
 abbrev pub UsesWrong : BlocksView → ℕ → ℕ → ℕ → PlanFault → Type 0
 UsesWrong m resources waits n (plan.Periods period_problem.BlockCount) = ¬ (m.blocks ≡ n)
-UsesWrong m resources waits n (plan.Periods (period_problem.NegativeUse r b)) = (m.blocks ≡ n) × (r < resources) × (b < n) × (use_in m r b <ℤ pos 0)
-UsesWrong m resources waits n (plan.Periods (period_problem.UnknownWait c b)) = (m.blocks ≡ n) × (c < waits) × (b < n) × ¬ (IsBlock n (use_in m (resources + c) b))
+UsesWrong m resources waits n (plan.Periods (period_problem.NegativeUse r b)) = (m.blocks ≡ n) × IsFirstWrong IsUse (use_in m) resources n r b
+UsesWrong m resources waits n (plan.Periods (period_problem.UnknownWait c b)) = (m.blocks ≡ n) × AllAre IsUse (use_in m) resources n × IsFirstWrong (IsBlock n) (λ k a. use_in m (resources + k) a) waits n c b
 UsesWrong m resources waits n (plan.Engine engine.Memory) = Unit {0}
 UsesWrong m resources waits n _ = ⊥
 
--- The text has no uses of n blocks: it is no text of blocks with these columns, or is of another number of blocks, or a
--- use is negative, or what a block waits for is none of the blocks.
+-- so many columns of a model that stand after others have no blocks for which others wait
+abbrev pub WaitsWrong : BlocksView → ℕ → ℕ → ℕ → PlanFault → Type 0
+WaitsWrong m first waits n (plan.Periods (period_problem.UnknownWait c b)) = IsFirstWrong (IsBlock n) (λ k a. use_in m (first + k) a) waits n c b
+WaitsWrong m first waits n (plan.Engine engine.Memory) = Unit {0}
+WaitsWrong m first waits n _ = ⊥
+
+-- The text has no uses of n blocks: it is no text of blocks with these columns, or is of another number of blocks; or
+-- this is the first use that is negative; or none is, and this is the first number that is to be that of a block for
+-- which another waits, and isn't.
 abbrev pub UsesFail : ℕ → (columns waits text : List ℕ) → PlanFault → Type 0
 UsesFail n columns waits text (plan.Engine (engine.Blocks p)) = BlocksFails (columns ++ waits) text p
 UsesFail n columns waits text (plan.Engine engine.Memory) = Unit {0}
 UsesFail n columns waits text (plan.Engine engine.Device) = Unit {0}
 UsesFail n columns waits text (plan.Periods period_problem.BlockCount) = IsWithinLimit text × (blocks.fault_of (columns ++ waits) text ≡ None) × ¬ (blocks.record_count_of text ≡ n)
-UsesFail n columns waits text (plan.Periods (period_problem.NegativeUse r b)) = IsWithinLimit text × (blocks.fault_of (columns ++ waits) text ≡ None) × (blocks.record_count_of text ≡ n) × (r < length columns) × (b < n) × (cell text (slice_index columns r) b <ℤ pos 0)
-UsesFail n columns waits text (plan.Periods (period_problem.UnknownWait c b)) = IsWithinLimit text × (blocks.fault_of (columns ++ waits) text ≡ None) × (blocks.record_count_of text ≡ n) × (c < length waits) × (b < n) × ¬ (IsBlock n (cell text (slice_index waits c) b))
+UsesFail n columns waits text (plan.Periods (period_problem.NegativeUse r b)) = AreBlocksOf n (columns ++ waits) text × IsFirstWrong IsUse (in_columns columns text) (length columns) n r b
+UsesFail n columns waits text (plan.Periods (period_problem.UnknownWait c b)) = AreBlocksOf n (columns ++ waits) text × AllAre IsUse (in_columns columns text) (length columns) n × IsFirstWrong (IsBlock n) (in_columns waits text) (length waits) n c b
 UsesFail n columns waits text _ = ⊥
 
 -- Why the texts beside a mine of n blocks aren't read: the fault is one of the periods; or, where these are read, one

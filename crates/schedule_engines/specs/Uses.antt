@@ -1,5 +1,5 @@
 -- Columns of a model of blocks: what blocks use of resources, and for which blocks they wait.
-use Rattle.std.specs.Prelude.{◌≡◌, ℕ, zero, suc, ◌+◌, ◌*◌, ◌/◌, ◌%◌, ◌<◌, ℤ, pos, unsigned_abs, Bool, List, [], ◌∷◌, ◌++◌, length, slice_index, slice_index_or}
+use Rattle.std.specs.Prelude.{◌≡◌, ℕ, zero, suc, ◌+◌, ◌*◌, ◌/◌, ◌%◌, ◌<◌, ℤ, pos, ◌≤ℤ◌, unsigned_abs, Bool, List, [], ◌∷◌, ◌++◌, length, slice_index, slice_index_or}
 use Rattle.prec_file.specs.Rests.{RestsView}
 use Rattle.blocks_file.specs.Denotes.{BlocksView}
 use Rattle.mine_inputs.specs.Prelude.{ArePairsBy, cell, rests_by}
@@ -13,9 +13,25 @@ pub record AreUses (m : BlocksView) (resources : ℕ) (uses : List ℕ) : Type 0
   pub size : length uses ≡ resources * m.blocks
   pub each : (i : ℕ) → i < resources * m.blocks → pos (slice_index uses i) ≡ use_in m (i / m.blocks) (i % m.blocks)
 
+-- a use as it has to be: none below zero
+abbrev pub IsUse : ℤ → Type 0
+IsUse z = pos 0 ≤ℤ z
+
 -- the number is that of one of n blocks, in millionths
 abbrev pub IsBlock : ℕ → ℤ → Type 0
 IsBlock n z = (a : ℕ) × (a < n) × (z ≡ pos (a * 1000000))
+
+-- The first number of so many columns of n blocks, column by column, that isn't such: that of block b in column k. Every
+-- number that stands before it is such.
+pub record IsFirstWrong (Such : ℤ → Type 0) (at : ℕ → ℕ → ℤ) (columns n k b : ℕ) : Type 0 where
+  pub column : k < columns
+  pub block : b < n
+  pub wrong : ¬ (Such (at k b))
+  pub before : (j a : ℕ) → j < columns → a < n → j * n + a < k * n + b → Such (at j a)
+
+-- every number of so many columns of n blocks is such
+abbrev pub AllAre : (ℤ → Type 0) → (ℕ → ℕ → ℤ) → (columns n : ℕ) → Type 0
+AllAre Such at columns n = (j a : ℕ) → j < columns → a < n → Such (at j a)
 
 -- The pairs that columns list of n blocks, column by column, by so many of their first numbers: a block, and the one
 -- whose number it has.

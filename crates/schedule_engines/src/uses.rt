@@ -1,11 +1,11 @@
 //! Reads what blocks use of the resources, and the blocks for which they wait: columns of a block model. No number of
 //! the former may be negative, and each of the latter is that of a block.
 
-ghost use Rattle.std.specs.Prelude.{◌≡◌, ◌+◌, ◌-◌, ◌*◌, ◌/◌, ◌^◌, ◌<◌, ◌≤◌, ◌↔◌, pos, ◌<ℤ◌, unsigned_abs, ◌++◌, ◌∷◌, [], length, IfOk, IfSome, IsErrOf, MatchOption, MatchResult, OnOk};
+ghost use Rattle.std.specs.Prelude.{◌≡◌, ◌+◌, ◌-◌, ◌*◌, ◌/◌, ◌^◌, ◌<◌, ◌≤◌, ◌↔◌, pos, unsigned_abs, ◌++◌, ◌∷◌, [], length, IfOk, IfSome, IsErrOf, MatchOption, MatchResult, OnOk};
 ghost use Rattle.mine_inputs.specs.declared.engine_fault.EngineFault.TheVariants as engine;
 ghost use Rattle.schedule_engines.specs.declared.schedule_fault.PlanFault.TheVariants as plan;
-ghost use Rattle.schedule_engines.specs.PlanTexts.{ReadsUses, UsesFail, UsesWrong};
-ghost use Rattle.schedule_engines.specs.Uses.{AreUses, HasWaits, IsBlock, use_in};
+ghost use Rattle.schedule_engines.specs.PlanTexts.{ReadsUses, UsesFail, UsesWrong, WaitsWrong};
+ghost use Rattle.schedule_engines.specs.Uses.{AreUses, HasWaits, IsBlock, IsUse, use_in};
 
 use crate::schedule_fault::{PeriodsProblem, PlanFault};
 use blocks_file::BlockModel;
@@ -28,7 +28,7 @@ fn use_of(model: &BlockModel, r: u32, b: u32) -> Option<u64>
     requires column { r < length model.now.columns }
     requires block { b < model.now.blocks }
     ensures { MatchOption result
-        (use_in model.now r b <ℤ pos 0)
+        (¬ (IsUse (use_in model.now r b)))
         (λ amount. pos amount ≡ use_in model.now r b) }
 {
     let amount = model.column(r, b).get();
@@ -116,7 +116,7 @@ fn waits_of(
     requires columns { length model.now.columns ≡ first + count }
     ensures are { MatchResult result
         (HasWaits model.now first count)
-        (UsesWrong model.now first count n) }
+        (WaitsWrong model.now first count n) }
     ensures no_device { ¬ IsErrOf result (plan.Engine engine.Device) }
 {
     let mut pairs: Vec<(u32, u32)> = Vec::new(alloc);
@@ -173,8 +173,8 @@ fn all_columns(alloc: Global, resources: &[u32], waits: &[u32]) -> Result<Vec<u3
 /// wait by others, at most 8 too.
 ///
 /// # Errors
-/// `Blocks` for a fault of the text; `Periods` where it has another number of blocks, a use is negative, or what a
-/// block waits for is no block. `Memory` where memory is refused, `Device` where a read fails.
+/// `Blocks` for a fault of the text; `Periods` where it has another number of blocks, and else for the first use that is
+/// negative, and else for the first block that waits for no block. `Memory` where memory is refused, `Device` where a read fails.
 pub fn uses_from<D: CountedRead>(
     alloc: Global,
     from: &mut D,

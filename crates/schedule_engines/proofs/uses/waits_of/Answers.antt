@@ -1,10 +1,10 @@
-use Rattle.std.proofs.Common.{rules, ◌≡◌, ◌∙◌, sym, FitsSigned, w64, unsigned_abs, ℕ, ◌+◌, ◌*◌, ◌/◌, ◌%◌, ◌<◌, ℤ, [], ◌∷◌, length, ap, arith}
+use Rattle.std.proofs.Common.{rules, ◌≡◌, ◌∙◌, sym, FitsSigned, w64, unsigned_abs, ℕ, ◌+◌, ◌*◌, ◌/◌, ◌%◌, ◌<◌, ℤ, [], ◌∷◌, length, ap, subst, arith}
 use Rattle.fixed_worth.proofs.Common.{All-push, length-append, to_z-of_z}
 use Rattle.std.proofs.lemmas.Nat.{div_below, mod_below}
 use Rattle.prec_file.specs.Rests.{IsKnown}
 use Rattle.schedules.proofs.Layers.{some_blocks}
-use Rattle.schedule_engines.specs.Uses.{use_in}
-use Rattle.schedule_engines.proofs.UsesRead.{has_waits, wait_listed, waits_known}
+use Rattle.schedule_engines.specs.Uses.{IsBlock, use_in}
+use Rattle.schedule_engines.proofs.UsesRead.{first_wrong, has_waits, wait_listed, waits_known}
 use Rattle.schedule_engines.proofs.uses.waits_of.Goals as goal
 
 pub overflow_add-first : goal.overflow_add-first
@@ -40,3 +40,15 @@ returns-clause-are c =
     let end : c.loop-i.i ≡ c.args.count * n = omega arith in
     let size : c.in_ok-into_predecessors.field-0.blocks ≡ n = search rules in
     has_waits m c.args.first c.args.count n c.loop-i.i c.loop-i.pairs.items c.in_ok-into_predecessors.field-0 c.requires.same end c.loop-i.invariant.listed c.loop-i.invariant.known size (search rules)
+
+pub returns-in-None-clause-are : goal.returns-in-None-clause-are
+returns-in-None-clause-are c =
+    let m = c.args.model.now in
+    let n = c.args.n in
+    let i = c.loop-i.i in
+    let at : ℕ → ℕ → ℤ = λ k b. use_in m (c.args.first + k) b in
+    let inside : i < c.args.count * n = omega arith in
+    let here : c.get-number.result ≡ at (i / n) (i % n) = search rules in
+    let fits : FitsSigned w64 c.get-number.result = search rules in
+    let whole = to_z-of_z w64 c.get-number.result fits in
+    first_wrong (IsBlock n) at c.args.count n i inside (λ x. c.in-None.ensures (subst (λ (z : ℤ). IsBlock n z) (sym here ∙ sym whole) x)) c.loop-i.invariant.known
