@@ -4,3 +4,4 @@ pub mod TextsBeside
 pub mod Answered
 pub mod PlanSolved
 pub mod GapsTold
+pub mod TextsFailing

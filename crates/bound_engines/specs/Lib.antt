@@ -2,6 +2,8 @@
 pub mod BesideTexts
 -- what a bound over texts is
 pub mod Bounded
+-- the faults of these texts
+pub mod TextFaults
 -- the line of a bound, and what is written
 pub mod BoundLines
 -- what is read where a bound is asked for beside a schedule

@@ -5,4 +5,5 @@ pub use Rattle.bound_engines.specs.Bounded.{DenotePlan, IsBounded, IsExpanded, I
 pub use Rattle.bound_engines.specs.GapTexts.{IsComparedRead}
 pub use Rattle.bound_engines.specs.Gaps.{IsBelow, IsCompared}
 pub use Rattle.bound_engines.specs.GapLines.{Compares, WritesBelow, WritesUnbounded, compared_text, compared_verdict, gap_line, gap_text}
+pub use Rattle.bound_engines.specs.TextFaults.{BesideFails, ComparedFails, IsBeyondTexts, IsTextFault, PricedPeriodsFail, PricesMissing, StandsInTexts}
 pub use Rattle.bound_engines.specs.PlanSolving.{AnswersPlan, IsPlanCertificate, IsPlanNet, SolvesNodes, SolvesPlan, WritesPlanFront}

@@ -4,6 +4,7 @@ ghost use Rattle.std.specs.Prelude.{◌≡◌, IsErrOf};
 ghost use Rattle.mine_inputs.specs.declared.engine_fault.EngineFault.TheVariants as engine;
 ghost use Rattle.schedule_engines.specs.declared.schedule_fault.PlanFault.TheVariants as plan;
 ghost use Rattle.bound_engines.specs.declared.bound_fault.BoundFault.TheVariants as bound;
+ghost use Rattle.bound_engines.specs.TextFaults.{IsBeyondTexts};
 
 use closure_net::NetFault;
 use expanded_mine::ExpandFault;
@@ -69,7 +70,8 @@ impl From<AllocError> for BoundFault {
 
 // What is answered where there is no expanded mine.
 pub(crate) fn of_expansion(fault: ExpandFault) -> BoundFault
-    ensures { ¬ (result ≡ bound.Plan (plan.Engine engine.Device)) }
+    ensures no_device { ¬ (result ≡ bound.Plan (plan.Engine engine.Device)) }
+    ensures beyond { IsBeyondTexts result }
 {
     match fault {
         ExpandFault::TooManyNodes => BoundFault::Nodes(NodesProblem::TooManyNodes),
@@ -81,7 +83,8 @@ pub(crate) fn of_expansion(fault: ExpandFault) -> BoundFault
 
 // What is answered where the nodes have no net: there are as many worths as nodes.
 pub(crate) fn of_net(fault: NetFault) -> BoundFault
-    ensures { ¬ (result ≡ bound.Plan (plan.Engine engine.Device)) }
+    ensures no_device { ¬ (result ≡ bound.Plan (plan.Engine engine.Device)) }
+    ensures beyond { IsBeyondTexts result }
 {
     match fault {
         NetFault::NoMemory => BoundFault::Plan(PlanFault::Engine(EngineFault::Memory)),

@@ -1,11 +1,12 @@
 //! Reads what a bound needs beside a mine: periods, and what blocks use.
 
-ghost use Rattle.std.specs.Prelude.{◌≡◌, ◌+◌, ◌-◌, ◌^◌, ◌<◌, ◌≤◌, length, IfOk, IfSome, IsErrOf};
+ghost use Rattle.std.specs.Prelude.{◌≡◌, ◌+◌, ◌-◌, ◌^◌, ◌<◌, ◌≤◌, length, IfOk, IfSome, MatchResult, IsErrOf};
 ghost use Rattle.mine_inputs.specs.declared.engine_fault.EngineFault.TheVariants as engine;
 ghost use Rattle.periods_file.specs.Periods.{periods_view};
 ghost use Rattle.schedule_engines.specs.PlanTexts.{ReadsPeriodsText};
 ghost use Rattle.schedule_engines.specs.declared.schedule_fault.PlanFault.TheVariants as plan;
 ghost use Rattle.bound_engines.specs.BesideTexts.{BesideCanCount, ForBeside, IsBesideRead, beside_failures};
+ghost use Rattle.bound_engines.specs.TextFaults.{BesideFails, PricedPeriodsFail};
 
 use fixed_worth::{CountedRead, MOST_BLOCKS};
 use periods_file::{PeriodKey, Periods, PeriodsFault};
@@ -39,7 +40,9 @@ pub(crate) fn priced_periods_from<D: CountedRead>(
     from: &mut D,
 ) -> Result<Periods, PlanFault>
     requires { D.failed from.old < 2 ^ 64 - 1 }
-    ensures read { IfSome (D.remaining from.old) (λ text. IfOk result (λ p. ReadsPeriodsText text (periods_view p))) }
+    ensures read { IfSome (D.remaining from.old) (λ text. MatchResult result
+        (λ p. ReadsPeriodsText text (periods_view p))
+        (PricedPeriodsFail text)) }
     ensures few { IfOk result (λ p. (length p.weights.items ≤ 1000) × (length p.resources.items ≤ 8)) }
     ensures waits { IfOk result (λ p. (length p.waits.items ≤ 8) × (p.lag ≤ 1000)) }
     ensures device { IsErrOf result (plan.Engine engine.Device)
@@ -66,8 +69,9 @@ pub(crate) fn beside_from<D: CountedRead>(
 ) -> Result<BesideRead, PlanFault>
     requires blocks { n ≤ MOST_BLOCKS }
     requires room { BesideCanCount beside.old D.failed }
-    ensures read { ForBeside beside.old D.remaining
-        (λ p u. IfOk result (λ r. IsBesideRead n r p u)) }
+    ensures read { ForBeside beside.old D.remaining (λ p u. MatchResult result
+        (λ r. IsBesideRead n r p u)
+        (BesideFails p u n)) }
     ensures few { IfOk result (λ r. length r.periods.resources.items ≤ 8) }
     ensures device { IsErrOf result (plan.Engine engine.Device)
         → beside_failures beside.new D.failed ≡ beside_failures beside.old D.failed + 1 }

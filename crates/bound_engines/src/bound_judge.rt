@@ -1,6 +1,6 @@
 //! Judges a certificate of the expanded mine of what was read, and gives the bound that it proves.
 
-ghost use Rattle.std.specs.Prelude.{◌≡◌, ◌+◌, ◌-◌, ◌*◌, ◌^◌, ◌<◌, ◌≤◌, List, ℕ, ℤ, length, IfOk, IfSome, IsErrOf};
+ghost use Rattle.std.specs.Prelude.{◌≡◌, ◌+◌, ◌-◌, ◌*◌, ◌^◌, ◌<◌, ◌≤◌, List, ℕ, ℤ, length, IfErr, IfOk, IfSome, IsErrOf};
 ghost use Rattle.std.specs.Thread.{IsSync};
 ghost use Rattle.ordered_group.specs.declared.groups.Group.TheVariants as group;
 ghost use Rattle.check_pit.specs.CertStreams.{IsReadFor};
@@ -14,6 +14,7 @@ ghost use Rattle.schedule_engines.specs.PlanTexts.{ReadsPeriodsText, ReadsUses};
 ghost use Rattle.schedule_engines.specs.declared.schedule_fault.PlanFault.TheVariants as plan;
 ghost use Rattle.bound_engines.specs.declared.bound_fault.BoundFault.TheVariants as bound;
 ghost use Rattle.bound_engines.specs.Bounded.{IsExpanded, IsToldFor, IsToldOf};
+ghost use Rattle.bound_engines.specs.TextFaults.{IsBeyondTexts};
 
 use crate::bound_fault::{BoundFault, NodesProblem};
 use crate::bound_inputs::BesideRead;
@@ -49,6 +50,7 @@ pub(crate) struct Case<'a, R> {
 fn nodes_of(blocks: u32, periods: usize) -> Result<u32, BoundFault>
     ensures is { IfOk result (λ nodes. (nodes ≡ periods * blocks)) }
     ensures no_device { ¬ IsErrOf result (bound.Plan (plan.Engine engine.Device)) }
+    ensures beyond { IfErr result IsBeyondTexts }
 {
     match (periods as u64).checked_mul(blocks as u64) {
         Some(nodes) if nodes <= MOST_BLOCKS as u64 => Ok(nodes as u32),
@@ -75,6 +77,7 @@ pub(crate) fn told_by<C: CountedRead>(
         → C.failed stream.new.lines.from ≡ C.failed stream.old.lines.from + 1 }
     ensures kept { ¬ IsErrOf result (bound.Plan (plan.Engine engine.Device))
         → C.failed stream.new.lines.from ≡ C.failed stream.old.lines.from }
+    ensures beyond { IfErr result IsBeyondTexts }
 {
     let judged = match judge_nodes(alloc, expanded.pairs, expanded.worths.as_slice(), stream) {
         Ok(judged) => judged,
@@ -111,6 +114,7 @@ fn bound_behind<C: CountedRead>(
         → C.failed stream.new.lines.from ≡ C.failed stream.old.lines.from + 1 }
     ensures kept { ¬ IsErrOf result (bound.Plan (plan.Engine engine.Device))
         → C.failed stream.new.lines.from ≡ C.failed stream.old.lines.from }
+    ensures beyond { IfErr result IsBeyondTexts }
 {
     match expanded_of(alloc, planned) {
         Ok(expanded) => told_by(alloc, expanded, stream),
@@ -143,6 +147,7 @@ pub(crate) fn planned_from<R: Threads + Sync, C: CountedRead>(
         → C.failed stream.new.lines.from ≡ C.failed stream.old.lines.from + 1 }
     ensures kept { ¬ IsErrOf result (bound.Plan (plan.Engine engine.Device))
         → C.failed stream.new.lines.from ≡ C.failed stream.old.lines.from }
+    ensures beyond { IfErr result IsBeyondTexts }
 {
     let MineToCheck {
         worths,
@@ -194,6 +199,7 @@ fn bound_from<R: Threads + Sync, C: CountedRead>(
         → C.failed stream.new.lines.from ≡ C.failed stream.old.lines.from + 1 }
     ensures kept { ¬ IsErrOf result (bound.Plan (plan.Engine engine.Device))
         → C.failed stream.new.lines.from ≡ C.failed stream.old.lines.from }
+    ensures beyond { IfErr result IsBeyondTexts }
 {
     match planned_from(rt, alloc, mine, beside, stream) {
         Ok(planned) => bound_behind(alloc, planned, stream),
@@ -223,6 +229,7 @@ pub(crate) fn judge_bound<R: Threads + Sync, C: CountedRead>(
         → C.failed result.0 ≡ C.failed device + 1 }
     ensures kept { ¬ IsErrOf result.1 (bound.Plan (plan.Engine engine.Device))
         → C.failed result.0 ≡ C.failed device }
+    ensures beyond { IfErr result.1 IsBeyondTexts }
 {
     let Case {
         rt,

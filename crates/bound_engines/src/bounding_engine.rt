@@ -12,6 +12,7 @@ ghost use Rattle.schedule_engines.specs.declared.schedule_fault.PlanFault.TheVar
 ghost use Rattle.bound_engines.specs.declared.bound_fault.BoundFault.TheVariants as bound;
 ghost use Rattle.bound_engines.specs.BesideTexts.{BesideCanCount, ForBeside, beside_failures};
 ghost use Rattle.bound_engines.specs.BoundLines.{Bounds, told_line, verdict_told};
+ghost use Rattle.bound_engines.specs.TextFaults.{BesideFails, StandsInTexts};
 
 use crate::bound_fault::BoundFault;
 use crate::bound_inputs::{BoundInputs, beside_from};
@@ -95,6 +96,11 @@ pub fn bound_engine<R: Threads + Sync, D: CountedRead, C: CountedRead, W: Counte
     ensures answer { IfSome (C.remaining certificate.old) (λ c. ForBeside beside.old D.remaining (λ p u.
         ForTexts inputs.old D.remaining (factor_in c) (λ texts.
         Bounds texts p u (W.contents out.old) (W.contents out.new) result))) }
+
+    // A fault of a text stands there, and none before it.
+    ensures fault { IfSome (C.remaining certificate.old) (λ c. ForBeside beside.old D.remaining (λ p u.
+        ForTexts inputs.old D.remaining (factor_in c) (λ texts.
+        IfErr result (StandsInTexts texts (BesideFails p u))))) }
 
     // A device is named exactly where one failed.
     ensures device { IsErrOf result (bound.Plan (plan.Engine engine.Device))

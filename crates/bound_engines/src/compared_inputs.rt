@@ -1,10 +1,11 @@
 //! Reads what a schedule and a bound on all need beside a mine: periods, what blocks use, and the schedule.
 
-ghost use Rattle.std.specs.Prelude.{◌≡◌, ◌+◌, ◌≤◌, length, IfOk, IsErrOf};
+ghost use Rattle.std.specs.Prelude.{◌≡◌, ◌+◌, ◌≤◌, length, IfOk, MatchResult, IsErrOf};
 ghost use Rattle.mine_inputs.specs.declared.engine_fault.EngineFault.TheVariants as engine;
 ghost use Rattle.schedule_engines.specs.PlanDevices.{ForPlan, PlanCanCount, plan_failures};
 ghost use Rattle.schedule_engines.specs.declared.schedule_fault.PlanFault.TheVariants as plan;
 ghost use Rattle.bound_engines.specs.GapTexts.{IsComparedRead};
+ghost use Rattle.bound_engines.specs.TextFaults.{ComparedFails};
 
 use crate::bound_inputs::{BesideRead, priced_periods_from};
 use fixed_worth::{CountedRead, MOST_BLOCKS};
@@ -28,7 +29,9 @@ pub(crate) fn plan_priced_from<D: CountedRead>(
 ) -> Result<ComparedRead, PlanFault>
     requires blocks { n ≤ MOST_BLOCKS }
     requires room { PlanCanCount beside.old D.failed }
-    ensures read { ForPlan beside.old D.remaining (λ p u s. IfOk result (λ r. IsComparedRead n r p u s)) }
+    ensures read { ForPlan beside.old D.remaining (λ p u s. MatchResult result
+        (λ r. IsComparedRead n r p u s)
+        (ComparedFails p u s n)) }
     ensures few { IfOk result (λ r. length r.beside.periods.resources.items ≤ 8) }
     ensures each { IfOk result (λ r. length r.schedule.items ≡ n) }
     ensures waits { IfOk result (λ r. r.beside.waits.blocks ≡ n) }

@@ -1,6 +1,6 @@
 //! Judges a schedule, and beside it a certificate of the expanded mine, which bounds all schedules.
 
-ghost use Rattle.std.specs.Prelude.{◌≡◌, ◌+◌, ◌-◌, ◌*◌, ◌^◌, ◌<◌, ◌≤◌, List, ℕ, length, IfOk, IfSome, IsErrOf};
+ghost use Rattle.std.specs.Prelude.{◌≡◌, ◌+◌, ◌-◌, ◌*◌, ◌^◌, ◌<◌, ◌≤◌, List, ℕ, length, IfErr, IfOk, IfSome, IsErrOf};
 ghost use Rattle.std.specs.Thread.{IsSync};
 ghost use Rattle.ordered_group.specs.declared.groups.Group.TheVariants as group;
 ghost use Rattle.check_pit.specs.CertStreams.{IsReadFor};
@@ -14,6 +14,7 @@ ghost use Rattle.schedule_engines.specs.PlanTexts.{ReadsPeriodsText, ReadsSchedu
 ghost use Rattle.schedule_engines.specs.declared.schedule_fault.PlanFault.TheVariants as plan;
 ghost use Rattle.bound_engines.specs.declared.bound_fault.BoundFault.TheVariants as bound;
 ghost use Rattle.bound_engines.specs.Gaps.{IsCompared};
+ghost use Rattle.bound_engines.specs.TextFaults.{IsBeyondTexts};
 
 use crate::bound_fault::BoundFault;
 use crate::bound_inputs::BesideRead;
@@ -68,6 +69,7 @@ fn compared_behind<C: CountedRead>(
         → C.failed stream.new.lines.from ≡ C.failed stream.old.lines.from + 1 }
     ensures kept { ¬ IsErrOf result (bound.Plan (plan.Engine engine.Device))
         → C.failed stream.new.lines.from ≡ C.failed stream.old.lines.from }
+    ensures beyond { IfErr result IsBeyondTexts }
 {
     let expanded = match expanded_of(alloc, planned) {
         Ok(expanded) => expanded,
@@ -111,6 +113,7 @@ fn compared_from<R: Threads + Sync, C: CountedRead>(
         → C.failed stream.new.lines.from ≡ C.failed stream.old.lines.from + 1 }
     ensures kept { ¬ IsErrOf result (bound.Plan (plan.Engine engine.Device))
         → C.failed stream.new.lines.from ≡ C.failed stream.old.lines.from }
+    ensures beyond { IfErr result IsBeyondTexts }
 {
     let ComparedRead { beside, schedule } = read;
     match planned_from(rt, alloc, mine, beside, stream) {
@@ -144,6 +147,7 @@ pub(crate) fn judge_compared<R: Threads + Sync, C: CountedRead>(
         → C.failed result.0 ≡ C.failed device + 1 }
     ensures kept { ¬ IsErrOf result.1 (bound.Plan (plan.Engine engine.Device))
         → C.failed result.0 ≡ C.failed device }
+    ensures beyond { IfErr result.1 IsBeyondTexts }
 {
     let ComparedCase {
         rt,

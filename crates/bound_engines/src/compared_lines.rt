@@ -1,7 +1,7 @@
 //! Writes what a schedule comes to and, after it, the bound on all schedules and how far the schedule is below it; or
 //! that the certificate is refused.
 
-ghost use Rattle.std.specs.Prelude.{◌≡◌, ◌+◌, ◌-◌, ◌^◌, ◌<◌, ◌++◌, ◌-ℤ◌, ℕ, List, IsTrue, IfOk, IfSome, IsErrOf};
+ghost use Rattle.std.specs.Prelude.{◌≡◌, ◌+◌, ◌-◌, ◌^◌, ◌<◌, ◌++◌, ◌-ℤ◌, ℕ, List, IsTrue, IfErr, IfOk, IfSome, IsErrOf};
 ghost use Rattle.std.specs.Io.KnownBytes.{Appends};
 ghost use Rattle.std.specs.String.{string_bytes};
 ghost use Rattle.mine_inputs.specs.Mines.{MineTexts};
@@ -12,6 +12,7 @@ ghost use Rattle.schedule_engines.specs.declared.schedule_fault.PlanFault.TheVar
 ghost use Rattle.bound_engines.specs.declared.bound_fault.BoundFault.TheVariants as bound;
 ghost use Rattle.bound_engines.specs.Gaps.{IsCompared};
 ghost use Rattle.bound_engines.specs.GapLines.{Compares, compared_text, compared_verdict, gap_line, gap_text};
+ghost use Rattle.bound_engines.specs.TextFaults.{IsBeyondTexts};
 
 use crate::bound_fault::{BoundFault, NodesProblem};
 use crate::bound_judge::Told;
@@ -43,6 +44,7 @@ fn line_of_gap(alloc: Global, gap: i128) -> Result<String, AllocError>
 fn gap_told(alloc: Global, judged: &Judged, most: i128) -> Result<String, BoundFault>
     ensures text { IfOk result (λ text. string_bytes text ≡ gap_text (judged_view judged.now) most) }
     ensures no_device { ¬ IsErrOf result (bound.Plan (plan.Engine engine.Device)) }
+    ensures beyond { IfErr result IsBeyondTexts }
 {
     if !is_clear(judged) {
         return Ok(String::new(alloc));
@@ -79,6 +81,7 @@ fn lines_below(
     ensures text { IfOk result (λ text. string_bytes text
         ≡ schedule_text (judged_view judged.now) ++ (string_bytes line.now ++ gap_text (judged_view judged.now) most)) }
     ensures no_device { ¬ IsErrOf result (bound.Plan (plan.Engine engine.Device)) }
+    ensures beyond { IfErr result IsBeyondTexts }
 {
     let gap = match gap_told(alloc, judged, most) {
         Ok(gap) => gap,
@@ -97,6 +100,7 @@ fn lines_below(
 fn text_told(alloc: Global, judged: &Judged, told: Told) -> Result<String, BoundFault>
     ensures text { IfOk result (λ text. string_bytes text ≡ compared_text (judged_view judged.now) told) }
     ensures no_device { ¬ IsErrOf result (bound.Plan (plan.Engine engine.Device)) }
+    ensures beyond { IfErr result IsBeyondTexts }
 {
     let Ok(line) = line_told(alloc, told) else {
         return Err(BoundFault::Plan(PlanFault::Engine(EngineFault::Memory)));
@@ -152,6 +156,7 @@ pub(crate) fn tell_compared<W: CountedWrite>(
         → W.failed out.new ≡ W.failed out.old + 1 }
     ensures kept { ¬ IsErrOf result (bound.Plan (plan.Engine engine.Device))
         → W.failed out.new ≡ W.failed out.old }
+    ensures beyond { IfErr result IsBeyondTexts }
 {
     let Compared { judged, told } = compared;
     let text = match text_told(alloc, &judged, told) {

@@ -1,7 +1,7 @@
 //! The engine of `schedule` where a certificate is given: a schedule, and beside it a bound on the worth of every
 //! schedule.
 
-ghost use Rattle.std.specs.Prelude.{◌≡◌, ◌+◌, ◌-◌, ◌^◌, ◌<◌, IfSome, IsErrOf};
+ghost use Rattle.std.specs.Prelude.{◌≡◌, ◌+◌, ◌-◌, ◌^◌, ◌<◌, IfErr, IfSome, IsErrOf};
 ghost use Rattle.engines.specs.Judging.{factor_in};
 ghost use Rattle.mine_inputs.specs.MineInputs.{ForTexts, CanCount, NoneFailed, OneFailed};
 ghost use Rattle.mine_inputs.specs.declared.engine_fault.EngineFault.TheVariants as engine;
@@ -9,6 +9,7 @@ ghost use Rattle.schedule_engines.specs.PlanDevices.{ForPlan, PlanCanCount, plan
 ghost use Rattle.schedule_engines.specs.declared.schedule_fault.PlanFault.TheVariants as plan;
 ghost use Rattle.bound_engines.specs.declared.bound_fault.BoundFault.TheVariants as bound;
 ghost use Rattle.bound_engines.specs.GapLines.{Compares};
+ghost use Rattle.bound_engines.specs.TextFaults.{ComparedFails, StandsInTexts};
 
 use crate::bound_fault::BoundFault;
 use crate::compared_inputs::plan_priced_from;
@@ -58,6 +59,11 @@ pub fn compare_schedule_engine<R: Threads + Sync, D: CountedRead, C: CountedRead
     ensures answer { IfSome (C.remaining certificate.old) (λ c. ForPlan beside.old D.remaining (λ p u s.
         ForTexts inputs.old D.remaining (factor_in c) (λ texts.
         Compares texts p u s (W.contents out.old) (W.contents out.new) result))) }
+
+    // A fault of a text stands there, and none before it.
+    ensures fault { IfSome (C.remaining certificate.old) (λ c. ForPlan beside.old D.remaining (λ p u s.
+        ForTexts inputs.old D.remaining (factor_in c) (λ texts.
+        IfErr result (StandsInTexts texts (ComparedFails p u s))))) }
 
     // A device is named exactly where one failed.
     ensures device { IsErrOf result (bound.Plan (plan.Engine engine.Device))

@@ -5,8 +5,9 @@
 //! for the texts of a mine and of a certificate and for solvers, on `check_pit`, which judges, and on `expanded_mine`,
 //! which makes the nodes. Promises upward, over the bytes of the texts: what is written as a bound is what the richest
 //! pit of the expanded mine is worth, with all capacities at their prices, and no feasible schedule is worth more; what
-//! is written as a gap is what that bound is more than the worth of a schedule, which is feasible; and what is written
-//! as a certificate has a flow that proves such a pit.
+//! is written as a gap is what that bound is more than the worth of a schedule, which is feasible; what is written as a
+//! certificate has a flow that proves such a pit; and a fault of a text that is answered stands there, a certificate's
+//! apart.
 #![tactic(auto)]
 
 mod bound_fault;

@@ -1,6 +1,6 @@
 //! Judges a certificate of nodes while it is read: takes the factor from its header, and gives what its pit is worth.
 
-ghost use Rattle.std.specs.Prelude.{◌≡◌, ◌↔◌, ◌+◌, ◌-◌, ◌^◌, ◌<◌, IfOk, IfSome, IsErrOf};
+ghost use Rattle.std.specs.Prelude.{◌≡◌, ◌↔◌, ◌+◌, ◌-◌, ◌^◌, ◌<◌, IfErr, IfOk, IfSome, IsErrOf};
 ghost use Rattle.ordered_group.specs.declared.groups.Group.TheVariants as group;
 ghost use Rattle.check_pit.specs.CertStreams.{IsReadFor};
 ghost use Rattle.check_pit.specs.declared.stream_fault.StreamFault.TheVariants as stream;
@@ -9,6 +9,7 @@ ghost use Rattle.mine_inputs.specs.declared.engine_fault.EngineFault.TheVariants
 ghost use Rattle.schedule_engines.specs.declared.schedule_fault.PlanFault.TheVariants as plan;
 ghost use Rattle.bound_engines.specs.declared.bound_fault.BoundFault.TheVariants as bound;
 ghost use Rattle.bound_engines.specs.Bounded.{IsJudgedOf, IsRefusal};
+ghost use Rattle.bound_engines.specs.TextFaults.{IsBeyondTexts};
 
 use crate::bound_fault::{BoundFault, of_net};
 use check_pit::{CertFault, CertStream, PitFault, Room, StreamFault, check_graph};
@@ -32,7 +33,8 @@ pub(crate) enum NodesJudged {
 
 // A fault of the certificate.
 fn of_certificate(problem: CertificateProblem) -> BoundFault
-    ensures { ¬ (result ≡ bound.Plan (plan.Engine engine.Device)) }
+    ensures beyond { IsBeyondTexts result }
+    ensures no_device { ¬ (result ≡ bound.Plan (plan.Engine engine.Device)) }
 {
     BoundFault::Plan(PlanFault::Engine(EngineFault::Certificate(problem)))
 }
@@ -41,6 +43,7 @@ fn of_certificate(problem: CertificateProblem) -> BoundFault
 fn judged_of(fault: StreamFault) -> Result<NodesJudged, BoundFault>
     ensures device { IsErrOf result (bound.Plan (plan.Engine engine.Device)) ↔ fault ≡ stream.Device }
     ensures refused { IfOk result IsRefusal }
+    ensures beyond { IfErr result IsBeyondTexts }
 {
     match fault {
         StreamFault::Device => Err(BoundFault::Plan(PlanFault::Engine(EngineFault::Device))),
@@ -55,7 +58,8 @@ fn judged_of(fault: StreamFault) -> Result<NodesJudged, BoundFault>
 
 // What is answered to a fault of a certificate's header.
 fn header_fault(fault: StreamFault) -> BoundFault
-    ensures { result ≡ bound.Plan (plan.Engine engine.Device) ↔ fault ≡ stream.Device }
+    ensures beyond { IsBeyondTexts result }
+    ensures device { result ≡ bound.Plan (plan.Engine engine.Device) ↔ fault ≡ stream.Device }
 {
     match judged_of(fault) {
         Err(fault) => fault,
@@ -86,6 +90,7 @@ pub(crate) fn factor_from<C: CountedRead>(
         → C.failed stream.new.lines.from ≡ C.failed stream.old.lines.from + 1 }
     ensures kept { ¬ IsErrOf result (bound.Plan (plan.Engine engine.Device))
         → C.failed stream.new.lines.from ≡ C.failed stream.old.lines.from }
+    ensures beyond { IfErr result IsBeyondTexts }
 {
     let header = match stream.header() {
         Ok(header) => header,
@@ -122,6 +127,7 @@ pub(crate) fn judge_nodes<C: CountedRead>(
         → C.failed stream.new.lines.from ≡ C.failed stream.old.lines.from + 1 }
     ensures kept { ¬ IsErrOf result (bound.Plan (plan.Engine engine.Device))
         → C.failed stream.new.lines.from ≡ C.failed stream.old.lines.from }
+    ensures beyond { IfErr result IsBeyondTexts }
 {
     let graph = match Graph::<Worth>::of_worths(alloc, pairs, worths) {
         Ok(graph) => graph,

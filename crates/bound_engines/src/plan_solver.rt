@@ -1,6 +1,6 @@
 //! Solves the expanded mine of what was read, and writes the certificate of its richest pit.
 
-ghost use Rattle.std.specs.Prelude.{◌≡◌, ◌+◌, ◌-◌, ◌^◌, ◌<◌, ◌≤◌, ◌↔◌, List, ℕ, length, IsErrOf};
+ghost use Rattle.std.specs.Prelude.{◌≡◌, ◌+◌, ◌-◌, ◌^◌, ◌<◌, ◌≤◌, ◌↔◌, List, ℕ, length, IfErr, IsErrOf};
 ghost use Rattle.std.specs.Thread.{IsSync};
 ghost use Rattle.certificate_file.specs.ReadBack.{IsPrice};
 ghost use Rattle.engines.specs.Solving.{SolvesNet};
@@ -12,6 +12,7 @@ ghost use Rattle.schedule_engines.specs.PlanTexts.{ReadsPeriodsText, ReadsUses};
 ghost use Rattle.schedule_engines.specs.declared.schedule_fault.PlanFault.TheVariants as plan;
 ghost use Rattle.bound_engines.specs.declared.bound_fault.BoundFault.TheVariants as bound;
 ghost use Rattle.bound_engines.specs.PlanSolving.{SolvesNodes, SolvesPlan};
+ghost use Rattle.bound_engines.specs.TextFaults.{IsBeyondTexts};
 
 use crate::bound_fault::{BoundFault, of_net};
 use crate::bound_inputs::BesideRead;
@@ -81,6 +82,7 @@ fn solve_nodes<R: Threads + Wait + Sync, T: Gate + Progress + Outcome, W: Counte
 ) -> Result<Verdict, BoundFault>
     requires price { IsPrice price }
     requires room { W.failed out.old < 2 ^ 64 - 1 }
+    ensures beyond { IfErr result IsBeyondTexts }
     ensures answer { SolvesNodes price nodes.pairs nodes.worths.items effort.method effort.steps
         (W.contents out.old) (W.contents out.new) result }
     ensures device { IsErrOf result (bound.Plan (plan.Engine engine.Device))
@@ -119,6 +121,7 @@ pub(crate) fn solve_plan<R: Threads + Wait + Sync, T: Gate + Progress + Outcome,
 ) -> Result<Verdict, BoundFault>
     requires few { length beside.periods.resources.items ≤ 8 }
     requires room { W.failed out.old < 2 ^ 64 - 1 }
+    ensures beyond { IfErr result IsBeyondTexts }
     ensures answer { (texts : MineTexts) (p u : List ℕ)
         → IsMineRead texts asked.factor mine.worths mine.predecessors
         → ReadsPeriodsText p (periods_view beside.periods)

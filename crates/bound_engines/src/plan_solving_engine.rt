@@ -1,13 +1,14 @@
 //! The engine of `solve` over periods: the bytes of a mine and of its periods in, a certificate of its expanded mine
 //! out.
 
-ghost use Rattle.std.specs.Prelude.{◌≡◌, ◌+◌, ◌-◌, ◌^◌, ◌<◌, IsErrOf};
+ghost use Rattle.std.specs.Prelude.{◌≡◌, ◌+◌, ◌-◌, ◌^◌, ◌<◌, IfErr, IsErrOf};
 ghost use Rattle.mine_inputs.specs.MineInputs.{ForTexts, CanCount, NoneFailed, OneFailed};
 ghost use Rattle.mine_inputs.specs.declared.engine_fault.EngineFault.TheVariants as engine;
 ghost use Rattle.schedule_engines.specs.declared.schedule_fault.PlanFault.TheVariants as plan;
 ghost use Rattle.bound_engines.specs.declared.bound_fault.BoundFault.TheVariants as bound;
 ghost use Rattle.bound_engines.specs.BesideTexts.{BesideCanCount, ForBeside, beside_failures};
 ghost use Rattle.bound_engines.specs.PlanSolving.{SolvesPlan};
+ghost use Rattle.bound_engines.specs.TextFaults.{BesideFails, StandsInTexts};
 
 use crate::bound_fault::BoundFault;
 use crate::bound_inputs::{BoundInputs, beside_from};
@@ -62,6 +63,11 @@ pub fn solve_plan_engine<
         ForTexts inputs.old D.remaining asked.factor (λ texts.
         SolvesPlan texts p u asked.effort.method asked.effort.steps
         (W.contents out.old) (W.contents out.new) result)) }
+
+    // A fault of a text stands there, and none before it.
+    ensures fault { ForBeside beside.old D.remaining (λ p u.
+        ForTexts inputs.old D.remaining asked.factor (λ texts.
+        IfErr result (StandsInTexts texts (BesideFails p u)))) }
 
     // A device is named exactly where one failed.
     ensures device { IsErrOf result (bound.Plan (plan.Engine engine.Device))

@@ -1,17 +1,18 @@
 //! Expands a mine that was read: the nodes of its blocks and periods, their pairs and their worths.
 
-ghost use Rattle.std.specs.Prelude.{◌≡◌, ◌≤◌, length, IfOk, IsErrOf};
+ghost use Rattle.std.specs.Prelude.{◌≡◌, ◌≤◌, length, IfErr, IfOk, IsErrOf};
 ghost use Rattle.mine_inputs.specs.declared.engine_fault.EngineFault.TheVariants as engine;
 ghost use Rattle.periods_file.specs.Periods.{periods_view};
 ghost use Rattle.schedule_engines.specs.declared.schedule_fault.PlanFault.TheVariants as plan;
 ghost use Rattle.bound_engines.specs.declared.bound_fault.BoundFault.TheVariants as bound;
 ghost use Rattle.bound_engines.specs.Bounded.{IsExpanded};
+ghost use Rattle.bound_engines.specs.TextFaults.{IsBeyondTexts};
 
 use crate::bound_fault::{BoundFault, of_expansion};
 use closure_net::NetFault;
 use expanded_mine::{Waits, node_predecessors, node_worths_of};
 use mine_inputs::EngineFault;
-use periods_file::{PeriodKey, Periods, PeriodsFault};
+use periods_file::Periods;
 use prec_file::Predecessors;
 use production_figures::Figures;
 use schedule_engines::{PeriodsProblem, PlanFault};
@@ -57,6 +58,7 @@ pub(crate) fn expanded_of(alloc: Global, planned: Planned) -> Result<Expanded, B
     ensures base { IfOk result (λ x. x.predecessors ≡ planned.predecessors) }
     ensures waits { IfOk result (λ x. (x.waits.pairs ≡ planned.waits) × (x.waits.lag ≡ planned.periods.lag)) }
     ensures no_device { ¬ IsErrOf result (bound.Plan (plan.Engine engine.Device)) }
+    ensures beyond { IfErr result IsBeyondTexts }
 {
     let Planned {
         nanos,
@@ -78,9 +80,10 @@ pub(crate) fn expanded_of(alloc: Global, planned: Planned) -> Result<Expanded, B
         waits: _columns,
         lag,
     } = periods;
+    // and its periods were read with prices
     let Some(prices) = multipliers else {
-        let fault = PeriodsFault::Missing(PeriodKey::Multipliers);
-        return Err(BoundFault::Plan(PlanFault::Periods(PeriodsProblem::Fault(fault))));
+        let fault = EngineFault::Model(NetFault::WrongLength);
+        return Err(BoundFault::Plan(PlanFault::Engine(fault)));
     };
     let count = resources.as_slice().len() as u32;
     let Some(figures) = Figures::new(nanos, weights, count, uses, capacities) else {
