@@ -3,13 +3,8 @@ use Rattle.settings_file.specs.Settings.{first_missing, is_said}
 use Rattle.settings_file.specs.declared.keys.Key.{Key}
 use Rattle.settings_file.specs.declared.keys.Key.TheVariants.{Slopes}
 use Rattle.mine_inputs.specs.Prelude.{BlocksReadFails, ReadsBlocks, columns_for, placing_keys}
-use Rattle.mine_inputs.proofs.ValuedAnswers.{settings_unread, slopes_unsaid, blocks_unread, placed_read}
+use Rattle.mine_inputs.proofs.ValuedAnswers.{slopes_unsaid, blocks_unread, placed_read}
 use Rattle.mine_inputs.proofs.valued_mines.placed_texts_from.Goals as goal
-
-pub returns-in_err-settings-clause-read : goal.returns-in_err-settings-clause-read
-returns-in_err-settings-clause-read g c =
-    let p = err_from_is_err_and c.from_residual.result c.from_residual.ensures.1 in
-    rw (p.1, p.2) (settings_unread (g.D.Read.remaining c.args.settings.now) (g.D.Read.remaining c.args.blocks.now) c.in_err-settings.field-0.0 c.in_err-settings.ensures.read)
 
 pub returns-then-not-says-clause-read : goal.returns-then-not-says-clause-read
 returns-then-not-says-clause-read g c =

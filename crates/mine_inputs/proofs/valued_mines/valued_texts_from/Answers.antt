@@ -1,12 +1,7 @@
 use Rattle.fixed_worth.proofs.Common.{ℕ, IfSome, subst, err_from_is_err_and}
 use Rattle.mine_inputs.specs.Prelude.{ReadsValues, ValuesReadFail}
-use Rattle.mine_inputs.proofs.ValuedAnswers.{places_unread, values_unread, texts_read}
+use Rattle.mine_inputs.proofs.ValuedAnswers.{values_unread, texts_read}
 use Rattle.mine_inputs.proofs.valued_mines.valued_texts_from.Goals as goal
-
-pub returns-in_err-settings-clause-read : goal.returns-in_err-settings-clause-read
-returns-in_err-settings-clause-read g c =
-    let p = err_from_is_err_and c.from_residual.result c.from_residual.ensures.1 in
-    rw (p.1, p.2) (places_unread (g.D.Read.remaining c.args.settings.now) (g.D.Read.remaining c.args.blocks.now) (g.D.Read.remaining c.args.upit.now) c.in_err-settings.field-0.0 c.in_err-settings.ensures.read)
 
 pub returns-in_err-values-clause-read : goal.returns-in_err-values-clause-read
 returns-in_err-values-clause-read g c =
