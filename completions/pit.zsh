@@ -76,7 +76,7 @@ _pit() {
             '--upit[What each block is worth]:upit:_files' \
             '--blocks[The blocks with the columns that the settings name]:blocks:_files' \
             '--settings[The columns of revenues and costs, or of a mill'\''s charges or several ways to treat blocks]:settings:_files' \
-            '--factor[The share of the revenues that counts, in thousandths, from 0 to 10000, with --blocks]:factor: ' \
+            '--factor[The share of the revenues that counts, in thousandths, from 0 to 10000, with --blocks and no --upit]:factor: ' \
             '--best[A certificate of the best pit, with which the design is compared]:best:_files' \
             '--verbose[Reports on standard error which file failed, and the system'\''s reason]' \
             '-h[Print help (see a summary with '\''-h'\'')]' '--help[Print help (see a summary with '\''-h'\'')]' '*:file:_files' ;;
@@ -86,7 +86,7 @@ _pit() {
             '--settings[The columns of revenues and costs, or of a mill'\''s charges or several ways to treat blocks]:settings:_files' \
             '--periods[What periods weigh, which columns have what blocks use of resources, and what each period has]:periods:_files' \
             '--uses[The blocks with the columns of what they use]:uses:_files' \
-            '--factor[The share of the revenues that counts, in thousandths, from 0 to 10000, with --blocks]:factor: ' \
+            '--factor[The share of the revenues that counts, in thousandths, from 0 to 10000, with --blocks and no --upit]:factor: ' \
             '--best[A certificate of blocks and periods, which bounds the worth of every schedule]:best:_files' \
             '--verbose[Reports on standard error which file failed, and the system'\''s reason]' \
             '-h[Print help (see a summary with '\''-h'\'')]' '--help[Print help (see a summary with '\''-h'\'')]' '*:file:_files' ;;

@@ -128,14 +128,15 @@ def named(words, option):
 
 
 def plainly(words, folder, certificate):
-    """What the plain reader says of a certificate for the files that the words name, or None where it can't read them."""
+    """What the plain reader says of a certificate for the files that the words name, or None where it can't read them or slopes
+    stand in the place of a precedence."""
     files = {
         option: (folder / named(words, option)).read_bytes()
         for option in ("prec", "upit", "settings", "blocks")
         if named(words, option)
     }
     try:
-        return plain_check.verdict(files, certificate)
+        return plain_check.verdict(files, certificate) if "prec" in files else None
     except plain_check.Unread:
         return None
 

@@ -18,6 +18,7 @@ ROWS = (
     "check/two_ore_blocks_share_one_waste_block",
     "check/prices_in_full",
     "check/slopes_by_region",
+    "check/values_beside_slopes",
     "solve/two_ore_blocks_share_one_waste_block_by_one_worker",
     "solve/one_block_by_two_workers_at_its_tenth_step",
     "solve/lock_free_ore_only_pays_its_waste",

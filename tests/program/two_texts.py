@@ -6,6 +6,10 @@ A certificate is the same by either, is read by plain_check.py, and is accepted 
 places (`--method pseudoflow`), which has the same pit and another flow. One with a thing changed gets the same line over either,
 that of plain_check.py. The lines of shells and of a report are added up from the pits of
 certificates at the same factors.
+
+So are mines of three texts, in which values stand beside the settings and the blocks, with what it answers over the same values
+and the precedence file alone; half of these settings name prices, which aren't looked at. A design and the trace of a run get
+the same lines by either too.
 """
 import random
 import tempfile
@@ -17,9 +21,13 @@ from program import many_mines, plain_check, regions
 from program.refused_calls import run
 
 MINES = 500
-MODELS = {
+PRICED = {
     "slopes": ["--blocks", "b", "--settings", "s"],
     "pairs": ["--prec", "p", "--blocks", "b", "--settings", "t"],
+}
+VALUED = {
+    "slopes": ["--upit", "u", "--blocks", "b", "--settings", "v"],
+    "pairs": ["--prec", "p", "--upit", "u"],
 }
 
 # The texts of a mine by the names of its files, the heights of its blocks and their tonnes, two factors, and whether there is a mill.
@@ -52,13 +60,33 @@ def made_up(seed):
     said = 'slopes = %r\n%sup = "%s"\n' % (slopes, "region = 0\n" * has_column, up)
     pairs = regions.precedence(places, region_of, slopes, is_plus, False)
     files = {"b": "".join(rows), "s": prices + said, "t": prices, "p": pairs}
+    files |= {"u": values_of(chance, blocks), "v": prices * chance.randrange(2) + said}
     return Mine(files, [place[2] for place in places], tonnes, factors, is_mill)
 
 
+def values_of(chance, blocks):
+    """A text of values of these blocks, of which some have no record."""
+    rows = [
+        "%d %.1f\n" % (b, chance.randrange(-60, 140) / 10) for b in blocks if chance.random() < 0.9
+    ]
+    chance.shuffle(rows)
+    return "NBLOCKS: %d\nOBJECTIVE_FUNCTION:\n%s" % (len(blocks), "".join(rows))
+
+
+def models_at(factor):
+    """The words that name a mine by either of its texts: of values where there is no factor."""
+    if factor is None:
+        return VALUED
+    return {kind: [*words, "--factor", str(factor)] for kind, words in PRICED.items()}
+
+
 def pit_of(mine, factor, certificate):
-    """What is wrong with a certificate, what it says, and what each block is worth at the factor."""
+    """What is wrong with a certificate, what it says, and what each block is worth at the factor, or by its value."""
     texts = {name: text.encode() for name, text in mine.files.items()}
-    worths = plain_check.worths_of_prices(texts["t"], texts["b"], factor, mine.is_mill)
+    if factor is None:
+        worths = plain_check.worths_of_values(texts["u"])
+    else:
+        worths = plain_check.worths_of_prices(texts["t"], texts["b"], factor, mine.is_mill)
     said = plain_check.proof_of(certificate)
     refusal = plain_check.refusal(worths, plain_check.predecessors(texts["p"]), said)
     return refusal, said, worths
@@ -103,13 +131,19 @@ def judged(mine, worths, said):
     return 0, b"ACCEPTED %d " % len(said.pit), b""
 
 
-def misjudged(program, folder, mine, worths, certificate):
+def checked(program, folder, factor, name):
+    """What a check of the file with this name answers by either of the mine's texts."""
+    models = VALUED if factor is None else PRICED
+    return [run(program, ["check", *words, name], folder) for words in models.values()]
+
+
+def misjudged(program, folder, mine, factor, worths, certificate):
     """What is wrong with the lines of checks of certificates with one thing changed."""
     head = certificate.decode().split("\n")[:4]
     said, faults = plain_check.proof_of(certificate), []
     for other in changed(said, len(worths), random.Random(certificate)):
         (folder / "d").write_text(lines_of(head, other))
-        checks = [run(program, ["check", *words, "d"], folder) for words in MODELS.values()]
+        checks = checked(program, folder, factor, "d")
         status, line, errors = judged(mine, worths, other)
         is_so = checks[0][::2] == (status, errors) and checks[0][1].startswith(line)
         if checks[0] != checks[1] or not is_so:
@@ -139,38 +173,64 @@ def report_of(mine, pits, worths):
 
 def missed_by_search(program, folder, mine, factor, pit):
     """What is wrong with the certificate of a search over places, whose flow is another, and with its checks."""
-    words = [*MODELS["slopes"], "--factor", str(factor), "--method", "pseudoflow"]
+    words = [*models_at(factor)["slopes"], "--method", "pseudoflow"]
     status, text, errors = run(program, ["solve", *words], folder)
     (folder / "c").write_bytes(text)
-    checks = [run(program, ["check", *words, "c"], folder)[:2] for words in MODELS.values()]
+    checks = checked(program, folder, factor, "c")
     refusal, said, _ = pit_of(mine, factor, text) if status == 0 else (errors, None, None)
     if refusal or said.pit != pit:
-        return ["%d: a search gave %d, %r, %s" % (factor, status, text, refusal)]
+        return ["%s: a search gave %d, %r, %s" % (factor, status, text, refusal)]
     if checks[0] != checks[1] or not checks[0][1].startswith(b"ACCEPTED %d " % len(pit)):
-        return ["%d: of a search checked as %r and %r" % (factor, *checks)]
+        return ["%s: of a search checked as %r and %r" % (factor, *checks)]
     return []
 
 
+def told_apart(program, folder, mine, worths):
+    """What is wrong with the lines of a design and of a trace over a mine of values, which are the same by either text."""
+    faults = []
+    chance = random.Random(mine.files["u"])
+    design = [b for b in range(len(worths)) if chance.random() < 0.5]
+    (folder / "e").write_text("".join("%d\n" % b for b in design))
+    steps = ["--method", "push-relabel", "--trace", "r"]
+    run(program, ["solve", *VALUED["slopes"], *steps], folder)
+    for command, name in (("value", "e"), ("replay", "r")):
+        by = [run(program, [command, *words, name], folder) for words in VALUED.values()]
+        if by[0] != by[1] or by[0][0] > 1 or by[0][2]:
+            faults.append("%s of values: %r and %r" % (command, *by))
+        if command == "value":
+            count, worth = by[0][1].split()[1:3]
+            if (int(count), Fraction(worth.decode())) != (
+                len(design),
+                Fraction(sum(worths[b] for b in design), 10**9),
+            ):
+                faults.append("value of %r: %r" % (design, by[0]))
+    return faults
+
+
 def solved(program, folder, mine):
-    """The pits at the factors, the worths at each, and what is wrong with their certificates."""
+    """The pits at the factors, the worths at each, and what is wrong with their certificates and with that of values."""
     pits, worths, faults = [], [], []
-    for factor in mine.factors:
+    for factor in (*mine.factors, None):
         by = {
-            kind: run(program, ["solve", *words, "--factor", str(factor)], folder)
-            for kind, words in MODELS.items()
+            kind: run(program, ["solve", *words], folder)
+            for kind, words in models_at(factor).items()
         }
         (folder / "c").write_bytes(by["slopes"][1])
-        checks = [run(program, ["check", *words, "c"], folder)[:2] for words in MODELS.values()]
+        checks = checked(program, folder, factor, "c")
         refusal, said, worth = pit_of(mine, factor, by["slopes"][1])
         line = b"ACCEPTED %d " % len(said.pit)
         if by["slopes"] != by["pairs"] or by["slopes"][0] != 0 or refusal:
-            faults.append("%d: %s, solved as %r and %r" % (factor, refusal, *by.values()))
+            faults.append("%s: %s, solved as %r and %r" % (factor, refusal, *by.values()))
         if checks[0] != checks[1] or not checks[0][1].startswith(line):
-            faults.append("%d: checked as %r and %r" % (factor, *checks))
+            faults.append("%s: checked as %r and %r" % (factor, *checks))
         faults += missed_by_search(program, folder, mine, factor, said.pit)
-        pits.append(said.pit)
-        worths.append(worth)
-    faults += misjudged(program, folder, mine, worth, by["slopes"][1])
+        if factor is None:
+            faults += told_apart(program, folder, mine, worth)
+        else:
+            pits.append(said.pit)
+            worths.append(worth)
+        if factor != mine.factors[0]:
+            faults += misjudged(program, folder, mine, factor, worth, by["slopes"][1])
     return pits, worths, faults
 
 
@@ -190,7 +250,7 @@ def wrong(program, seed):
             "report": report_of(mine, pits, worths[-1]),
         }
         for command, rows in wanted.items():
-            for kind, words in MODELS.items():
+            for kind, words in PRICED.items():
                 status, output, errors = run(program, [command, *words], folder)
                 lines = output.decode().splitlines()[command == "report" :]
                 mark = "," if command == "report" else None

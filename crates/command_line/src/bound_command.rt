@@ -10,7 +10,7 @@ use std::alloc::{AllocError, Global};
 const ABOUT: &str = "Bounds the worth of every schedule, by a certificate of blocks and periods";
 
 const USAGE: &str =
-    "pit bound (--prec <FILE> --upit <FILE> --uses <FILE> | [--prec <FILE>] --blocks <FILE> --settings <FILE>) --periods <FILE> [OPTIONS] <CERT>";
+    "pit bound (--prec <FILE> --upit <FILE> --uses <FILE> | [--prec <FILE> | --upit <FILE>] --blocks <FILE> --settings <FILE>) --periods <FILE> [OPTIONS] <CERT>";
 
 const DETAILS: &str = "Bounds the worth of every schedule, by a certificate of blocks and periods.
 
@@ -20,7 +20,7 @@ Answers:
   BOUND v          no schedule that keeps the precedence and the capacities is worth more than v
   REFUSED reason   the certificate doesn't prove its pit; the status is 1
 
-With --blocks and --settings a block's worth follows from its prices at the factor that the certificate names.";
+With --blocks and --settings, and no --upit, a block's worth follows from its prices at the factor that the certificate names.";
 
 const PERIODS_HELP: &str =
     "What periods weigh, which columns have what blocks use of resources, what each period has, and the multipliers: a TOML text";

@@ -9,13 +9,13 @@ use std::alloc::{AllocError, Global};
 const ABOUT: &str = "Checks a certificate: does its flow prove that its pit is the best?";
 
 const USAGE: &str =
-    "pit check (--prec <FILE> --upit <FILE> | [--prec <FILE>] --blocks <FILE> --settings <FILE>) [OPTIONS] <CERT>";
+    "pit check (--prec <FILE> --upit <FILE> | [--prec <FILE> | --upit <FILE>] --blocks <FILE> --settings <FILE>) [OPTIONS] <CERT>";
 
 const DETAILS: &str = "Checks a certificate: does its flow prove that its pit is the best?
 
 Prints ACCEPTED, the number of blocks and the worth, or REFUSED and the reason. What is accepted is proved. The pit contains all predecessors of each of its blocks, and no such pit is worth more. Every other that is worth as much has more blocks, except with a certificate of GROUP WORTH.
 
-With --blocks and --settings a block's worth follows from its prices at the factor that the certificate names. Then, of two pits that are accepted over the same files, the one at the lower factor lies within the other, except with a certificate of GROUP WORTH.";
+With --blocks and --settings, and no --upit, a block's worth follows from its prices at the factor that the certificate names. Then, of two pits that are accepted over the same files, the one at the lower factor lies within the other, except with a certificate of GROUP WORTH.";
 
 const CERTIFICATE_HELP: &str = "The pit and its flow: a PITCERT text";
 

@@ -19,7 +19,7 @@ pub const PREC_HELP: &str =
 
 /// The help of `--upit`.
 pub const UPIT_HELP: &str =
-    "What each block is worth: MineLib's .upit; needed unless --blocks and --settings are given";
+    "What each block is worth: MineLib's .upit; needed unless --blocks and --settings are given, and beside these in place of prices, where the settings list slopes";
 
 /// An option that names one of a few things, or a number.
 pub fn named_option<'a>(alloc: Global, name: &'a str, shown: &'a str, help: &'a str) -> Arg<'a> {
@@ -72,7 +72,7 @@ pub fn uses_option<'a>(alloc: Global) -> Result<Arg<'a>, AllocError> {
         alloc,
         "uses",
         "FILE",
-        "The blocks with the columns of what they use: MineLib's .blocks; needed with --upit, and otherwise the file of --blocks by default",
+        "The blocks with the columns of what they use: MineLib's .blocks; the file of --blocks by default, and needed without that",
     )
     .required_unless_present("blocks")
 }
@@ -99,9 +99,19 @@ pub enum ModelArgs<'a> {
         /// MineLib's `.blocks`.
         blocks: &'a str,
     },
+    /// A file of settings that list slopes, one of blocks, and one of their values.
+    Valued {
+        /// The settings.
+        settings: &'a str,
+        /// MineLib's `.blocks`.
+        blocks: &'a str,
+        /// MineLib's `.upit`.
+        upit: &'a str,
+    },
 }
 
-/// The options that name the files of a mine: its precedence, and its values or its settings and blocks.
+/// The options that name the files of a mine: its precedence, and its values or its settings and blocks; or its values,
+/// settings and blocks.
 pub fn model_options<'a>(alloc: Global) -> Result<Vec<Arg<'a>>, AllocError> {
     let prec = prec_option(alloc)?;
     let values = values_option(alloc)?;
@@ -120,9 +130,11 @@ pub fn model_at_factor_options<'a>(alloc: Global) -> Result<Vec<Arg<'a>>, AllocE
     Ok(vec![in alloc; prec, values, blocks, settings, factor]?)
 }
 
-// The predecessors, in whose place settings may list slopes.
+// The predecessors, in whose place settings may list slopes. Blocks alone are told to need settings, and not this file.
 fn prec_option<'a>(alloc: Global) -> Result<Arg<'a>, AllocError> {
-    named_option(alloc, "prec", "FILE", PREC_HELP).required_unless_present("settings")
+    named_option(alloc, "prec", "FILE", PREC_HELP)
+        .required_unless_present("settings")?
+        .required_unless_present("blocks")
 }
 
 // The values of blocks, where neither of the files of a priced model is given.
@@ -154,21 +166,30 @@ fn priced_option<'a>(
     help: &'a str,
     other: &'a str,
 ) -> Result<Arg<'a>, AllocError> {
-    named_option(alloc, name, "FILE", help)
-        .requires_arg(other)?
-        .conflicts_with("upit")
+    named_option(alloc, name, "FILE", help).requires_arg(other)
 }
 
 /// The files that were given.
 pub fn model_args<'a>(matches: &ArgMatches<'a>) -> ModelArgs<'a> {
-    let prec = matches.get_str("prec");
     match (matches.get_str("settings"), matches.get_str("blocks")) {
-        (Some(settings), Some(blocks)) if prec.is_some() => ModelArgs::Prices { settings, blocks },
-        (Some(settings), Some(blocks)) => ModelArgs::Sloped { settings, blocks },
+        (Some(settings), Some(blocks)) => match matches.get_str("upit") {
+            Some(upit) => ModelArgs::Valued {
+                settings,
+                blocks,
+                upit,
+            },
+            None if matches.contains_id("prec") => ModelArgs::Prices { settings, blocks },
+            None => ModelArgs::Sloped { settings, blocks },
+        },
         _ => ModelArgs::Values {
             upit: text_of(matches, "upit"),
         },
     }
+}
+
+/// Whether a file of the predecessors is given beside values and settings, whose slopes say the same.
+pub fn names_rests_twice(matches: &ArgMatches<'_>) -> bool {
+    matches.contains_id("prec") && matches.contains_id("upit") && matches.contains_id("settings")
 }
 
 // The option that names the factor of a priced model, which needs one.
@@ -177,7 +198,7 @@ fn factor_option<'a>(alloc: Global) -> Result<Arg<'a>, AllocError> {
         alloc,
         "factor",
         "FACTOR",
-        "The share of the revenues that counts, in thousandths, from 0 to 10000; needed with --blocks",
+        "The share of the revenues that counts, in thousandths, from 0 to 10000; needed with --blocks, unless --upit is given",
     )
     .requires_arg("blocks")?
     .conflicts_with("upit")

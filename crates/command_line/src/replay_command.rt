@@ -10,7 +10,7 @@ use std::alloc::{AllocError, Global};
 const ABOUT: &str = "Repeats a run step by step from its trace";
 
 const USAGE: &str =
-    "pit replay (--prec <FILE> --upit <FILE> | [--prec <FILE>] --blocks <FILE> --settings <FILE> --factor <FACTOR>) [OPTIONS] <TRACE>";
+    "pit replay (--prec <FILE> --upit <FILE> | --upit <FILE> --blocks <FILE> --settings <FILE> | [--prec <FILE>] --blocks <FILE> --settings <FILE> --factor <FACTOR>) [OPTIONS] <TRACE>";
 
 const DETAILS: &str =
     "Repeats a run of push-relabel step by step from its trace. OPEN and REFUSED have the status 1.

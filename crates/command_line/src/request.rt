@@ -4,7 +4,7 @@ use crate::bound_command::{BoundArgs, bound_args, bound_command};
 use crate::check_command::{CheckArgs, check_args, check_command};
 use crate::declined::Declined;
 use crate::escaped::{Escaped, has_control};
-use crate::options::STATUSES;
+use crate::options::{STATUSES, names_rests_twice};
 use crate::replay_command::{ReplayArgs, replay_args, replay_command};
 use crate::report_command::report_command;
 use crate::schedule_command::{ScheduleArgs, schedule_args, schedule_command};
@@ -20,6 +20,9 @@ use std::alloc::{AllocError, Global};
 
 const ABOUT: &str =
     "Finds the ultimate pit of a block model and proves it, and checks the certificate of any solver";
+
+const RESTS_TWICE: &str =
+    "the argument '--prec <FILE>' cannot be used with '--upit <FILE>' and '--settings <FILE>': beside values the slopes of the settings say what rests on what";
 
 /// What the arguments ask for.
 #[derive(Clone, Copy)]
@@ -80,6 +83,9 @@ fn escaped_args(alloc: Global, args: &[String]) -> Result<Vec<String>, AllocErro
 fn parsed<'a>(alloc: Global, args: &'a [String]) -> Result<Request<'a>, Error> {
     let matches = pit_command(alloc)?.try_get_matches_from(args)?;
     match matches.subcommand() {
+        Some((name, matches)) if names_rests_twice(matches) => {
+            Err(rests_said_twice(alloc, name)?)
+        }
         Some(("bound", matches)) => Ok(Request::Bound(bound_args(matches))),
         Some(("check", matches)) => Ok(Request::Check(check_args(matches))),
         Some(("replay", matches)) => Ok(Request::Replay(replay_args(matches))),
@@ -95,6 +101,20 @@ fn parsed<'a>(alloc: Global, args: &'a [String]) -> Result<Request<'a>, Error> {
         Some(("value", matches)) => Ok(Request::Value(value_args(matches))),
         _ => Err(pit_command(alloc)?.error(ErrorKind::MissingSubcommand, "a command is missing")?),
     }
+}
+
+// What is wrong with files of a mine where two of them say what rests on what.
+fn rests_said_twice(alloc: Global, name: &str) -> Result<Error, AllocError> {
+    let (made, name) = match name {
+        "bound" => (bound_command(alloc), "pit bound"),
+        "check" => (check_command(alloc), "pit check"),
+        "replay" => (replay_command(alloc), "pit replay"),
+        "schedule" => (schedule_command(alloc), "pit schedule"),
+        "value" => (value_command(alloc), "pit value"),
+        _ => (solve_command(alloc), "pit solve"),
+    };
+    let mut command = made?.bin_name(name)?;
+    command.error(ErrorKind::ArgumentConflict, RESTS_TWICE)
 }
 
 fn pit_command<'a>(alloc: Global) -> Result<Command<'a>, AllocError> {

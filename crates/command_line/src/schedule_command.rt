@@ -11,7 +11,7 @@ use std::alloc::{AllocError, Global};
 const ABOUT: &str = "Judges a schedule: what is it worth in its periods, and can it be dug?";
 
 const USAGE: &str =
-    "pit schedule (--prec <FILE> --upit <FILE> --uses <FILE> | [--prec <FILE>] --blocks <FILE> --settings <FILE>) --periods <FILE> [OPTIONS] <SCHEDULE>";
+    "pit schedule (--prec <FILE> --upit <FILE> --uses <FILE> | [--prec <FILE> | --upit <FILE>] --blocks <FILE> --settings <FILE>) --periods <FILE> [OPTIONS] <SCHEDULE>";
 
 const DETAILS: &str =
     "Judges a schedule: in which period each block is dug. It is feasible where BROKEN has 0 and no line EARLY or OVER comes; otherwise the status is 1.
@@ -39,7 +39,7 @@ const BEST_HELP: &str =
     "A certificate of blocks and periods, which bounds the worth of every schedule: what `pit solve --periods` writes. The periods need multipliers; with --blocks it names the factor, and --factor can't be given";
 
 const FACTOR_HELP: &str =
-    "The share of the revenues that counts, in thousandths, from 0 to 10000, with --blocks; 1000 by default";
+    "The share of the revenues that counts, in thousandths, from 0 to 10000, with --blocks and no --upit; 1000 by default";
 
 /// The files of a schedule, of its periods and of its mine, where they were given the factor, the blocks that have the
 /// uses and the certificate of a bound, and whether it is told why a file failed.

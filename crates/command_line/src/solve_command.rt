@@ -12,7 +12,7 @@ use std::alloc::{AllocError, Global};
 const ABOUT: &str = "Finds the best pit and writes its certificate";
 
 const USAGE: &str =
-    "pit solve (--prec <FILE> --upit <FILE> | [--prec <FILE>] --blocks <FILE> --settings <FILE> --factor <FACTOR>) [OPTIONS]";
+    "pit solve (--prec <FILE> --upit <FILE> | --upit <FILE> --blocks <FILE> --settings <FILE> | [--prec <FILE>] --blocks <FILE> --settings <FILE> --factor <FACTOR>) [OPTIONS]";
 
 const DETAILS: &str = "Finds the best pit and writes its certificate.
 
@@ -43,7 +43,7 @@ const PERIODS_HELP: &str =
     "Solves the mine of blocks and periods: what periods weigh and have, and the multipliers, a TOML text. Not with --group, --trace or --method lock-free";
 
 const USES_HELP: &str =
-    "With --periods, the blocks with the columns of what they use: needed with --upit, and otherwise the file of --blocks by default";
+    "With --periods, the blocks with the columns of what they use: the file of --blocks by default, and needed without that";
 
 // What has the uses of blocks: one of these is needed with periods.
 const USED: &str = "used";
@@ -78,6 +78,11 @@ impl SolveArgs<'_> {
             ModelArgs::Values { upit } => name == upit,
             ModelArgs::Prices { settings, blocks } => name == settings || name == blocks,
             ModelArgs::Sloped { settings, blocks } => name == settings || name == blocks,
+            ModelArgs::Valued {
+                settings,
+                blocks,
+                upit,
+            } => name == settings || name == blocks || name == upit,
         };
         of_model || name == self.prec
     }

@@ -11,7 +11,7 @@ use std::alloc::{AllocError, Global};
 const ABOUT: &str = "Judges a design: what are its blocks worth, and do they need others?";
 
 const USAGE: &str =
-    "pit value (--prec <FILE> --upit <FILE> | [--prec <FILE>] --blocks <FILE> --settings <FILE>) [OPTIONS] <DESIGN>";
+    "pit value (--prec <FILE> --upit <FILE> | [--prec <FILE> | --upit <FILE>] --blocks <FILE> --settings <FILE>) [OPTIONS] <DESIGN>";
 
 const DETAILS: &str = "Judges a design: a set of blocks that somebody drew. OPEN has the status 1.
 
@@ -31,7 +31,7 @@ const BEST_HELP: &str =
     "A certificate of the best pit, with which the design is compared: a PITCERT text. With --blocks it names the factor, and --factor can't be given";
 
 const FACTOR_HELP: &str =
-    "The share of the revenues that counts, in thousandths, from 0 to 10000, with --blocks; 1000 by default";
+    "The share of the revenues that counts, in thousandths, from 0 to 10000, with --blocks and no --upit; 1000 by default";
 
 /// The files of a design and its mine, where they were given the factor and the certificate of the best pit, and
 /// whether it is told why a file failed.

@@ -7,7 +7,7 @@ use Rattle.slope.specs.declared.up.Up.{Up}
 use Rattle.blocks_file.specs.Denotes.{BlocksView}
 use Rattle.prec_file.specs.Prelude.{RestsView, ArePairsOf, pairs_of_text, fault_of, ReadsBack, prec_text}
 use Rattle.prec_file.proofs.WrittenRecords.{reads_back}
-use Rattle.mine_inputs.specs.Mines.{MineTexts, mine_texts, priced_texts, sloped_texts, mine_of, rests_by}
+use Rattle.mine_inputs.specs.Mines.{MineTexts, mine_texts, priced_texts, sloped_texts, valued_texts, mine_of, rests_by}
 use Rattle.closure_net.specs.Mine.{Mine, IsPit, IsBest}
 use Rattle.engines.specs.Reduced.{mine_of_pairs, ReducedPairsDecide, AreWritten, ReducedTextsDecide, with_precedence}
 use Rattle.mine_inputs.proofs.Listed.{listed_rests}
@@ -89,6 +89,7 @@ module _ (m : BlocksView) (offsets : List Offset) (up : Up) (every reduced : Res
   texts_decide (mine_texts values precedence) n e = listed_decide _ n e
   texts_decide (priced_texts settings blocks precedence factor) n e = listed_decide _ n e
   texts_decide (sloped_texts settings blocks factor) n e = listed_decide _ n e
+  texts_decide (valued_texts settings blocks values) n e = listed_decide _ n e
 
 pub reduced_texts : ReducedTextsDecide
 reduced_texts m offsets up every reduced texts n e pattern all less = (

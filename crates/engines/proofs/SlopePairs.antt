@@ -9,9 +9,9 @@ use Rattle.certificate_file.specs.declared.header.Price.{Price}
 use Rattle.certificate_file.specs.Prelude.{header_of, pieces_of}
 use Rattle.shells.specs.Prices.{PricesView, price_of, worth_at}
 use Rattle.slope.proofs.Tested.{pairs_tested}
-use Rattle.mine_inputs.specs.Prelude.{ArePairsBy, DenoteMine, MineTexts, mine_of, placed_in, price_wanted, priced_texts, rests_by, rests_said, slopes_said, sloped_texts, up_said}
+use Rattle.mine_inputs.specs.Prelude.{ArePairsBy, DenoteMine, MineTexts, mine_of, mine_texts, placed_in, price_wanted, priced_texts, rests_by, rests_said, slopes_said, sloped_texts, up_said, valued_texts, worth_by}
 use Rattle.mine_inputs.proofs.Listed.{by_listed}
-use Rattle.engines.specs.Prelude.{CertificateAccepted, IsProvedPit, SlopesAreTheirPairs, block_by}
+use Rattle.engines.specs.Prelude.{AreSlopePairs, CertificateAccepted, IsProvedPit, SlopesAreTheirPairs, ValuedSlopesAreTheirPairs, block_by}
 use Rattle.engines.proofs.Unread.{one_size}
 
 -- two tests that are true together are the same
@@ -54,16 +54,29 @@ module _ (t u : MineTexts) (price : price_wanted t ≡ price_wanted u) (same : (
         worth = subst (λ (m : Mine). worth_of m e ≡ worth) (same r.blocks) a.worth;
       }
 
-pub slopes_are_pairs : SlopesAreTheirPairs
-slopes_are_pairs s s' b rests k n are table one other c name count worth =
+-- who rests on whom by slopes is who does by the file of their pairs
+slopes_agree : (s b : List ℕ) (rests : RestsView) → AreSlopePairs s b rests → (x y : ℕ) → rests_said (settings_of s) (placed_in (settings_of s) b) x y ≡ rests_by (pairs_of_text (prec_text rests)) x y
+slopes_agree s b rests are =
     let said = settings_of s in
     let m = placed_in said b in
     let listed = pairs_of_text (prec_text rests) in
     let by_slopes : ArePairsBy (rests_said said m) rests.pairs = record { rising = are.slopes.rising; same = pairs_tested (slopes_said said) m (up_said said) rests are.slopes } in
     let by_text : ArePairsBy (rests_by listed) rests.pairs = by_listed listed rests.pairs (reads_back rests are.is_rests are.few are.narrow).same in
-    let agree = rests_agree (rests_said said m) (rests_by listed) rests.pairs by_slopes by_text in
+    rests_agree (rests_said said m) (rests_by listed) rests.pairs by_slopes by_text
+
+pub slopes_are_pairs : SlopesAreTheirPairs
+slopes_are_pairs s s' b rests k n are table one other c name count worth =
+    let agree = slopes_agree s b rests are in
     let same : (i : ℕ) → mine_of i (sloped_texts s b k) ≡ mine_of i (priced_texts s' b (prec_text rests) k) = λ i j. record { blocks = i; rests = λ x y. agree x y j; worth = worth_at (table j) k } in
     let price = ap (λ (p : PricesView). price_of p k) table in (
       moved (sloped_texts s b k) (priced_texts s' b (prec_text rests) k) price same n one other c name count worth,
       moved (priced_texts s' b (prec_text rests) k) (sloped_texts s b k) (sym price) (λ i. sym (same i)) n other one c name count worth,
     )
+
+pub valued_slopes_are_pairs : ValuedSlopesAreTheirPairs
+valued_slopes_are_pairs s b v rests n are one other c name count worth =
+    let here = valued_texts s b v in
+    let there = mine_texts v (prec_text rests) in
+    let agree = slopes_agree s b rests are in
+    let same : (i : ℕ) → mine_of i here ≡ mine_of i there = λ i j. record { blocks = i; rests = λ x y. agree x y j; worth = worth_by there } in
+    (moved here there refl same n one other c name count worth, moved there here refl (λ i. sym (same i)) n other one c name count worth)

@@ -33,7 +33,7 @@ use Rattle.shells.specs.declared.prices_fault.PricesFault.{PricesFault}
 use Rattle.mine_inputs.specs.declared.columns_of_prices.PriceColumns.{PriceColumns}
 use Rattle.mine_inputs.specs.declared.columns_of_prices.PriceColumns.TheVariants.{Plain, Treated}
 use Rattle.shells.specs.declared.prices_fault.PricesFault.TheVariants as prices_fault
-use Rattle.mine_inputs.specs.Prelude.{price_keys, slope_keys, sloped_keys, columns_by, columns_said, cell, cells, table_at, way_cells, placed_in, prices_alone, prices_and_slopes, table_of, KeysSaid, Wanted, PricesReadBy, PricesFailBy, SettingsFails, SlopesFail, SlopesRead, MineTexts, mine_texts, priced_texts, sloped_texts, ValuesRead, WorthsRead, RestsRead, PrecedenceRead, mine_of, DenoteMine, MineSlopesFail, PrecFails, PrecedenceFails, ValuesFail, SettingsFail, BlocksFail, TableFails}
+use Rattle.mine_inputs.specs.Prelude.{price_keys, slope_keys, sloped_keys, placing_keys, columns_by, columns_said, cell, cells, table_at, way_cells, placed_in, prices_alone, prices_and_slopes, table_of, KeysSaid, Wanted, PricesReadBy, PricesFailBy, SettingsFails, SlopesFail, SlopesRead, MineTexts, mine_texts, priced_texts, sloped_texts, valued_texts, ValuesRead, ValuesReadFor, WorthsRead, RestsRead, PrecedenceRead, mine_of, DenoteMine, MineSlopesFail, PrecFails, PrecedenceFails, ValuesFail, ValuesFailFor, SettingsFail, BlocksFail, TableFails}
 use Rattle.engines.specs.Prelude.{block_by, counts_by, IsHeader, IsTooManyToList, Reads, ModelFails, HeaderFails, BodyTextFails, PriceDiffers}
 use Rattle.mine_inputs.proofs.Priced.{priced_at}
 use Rattle.engines.proofs.Alone.{ok_same, nets_same}
@@ -48,11 +48,16 @@ not_both r a f e g = let h : Ok a ≡ Err f = sym e ∙ g in cc
 values_fault : (text : List ℕ) (n : ℕ) (fault : UpitFault) → ValuesRead text n → upit.fault_of (upit.blocks_declared (upit.lines_in text)) text ≡ Some fault → ⊥
 values_fault text n fault r h = grind (arith, common_steps)
 
+values_stand_for : (text : List ℕ) (n : ℕ) (q : Problem UpitFault) → ValuesReadFor text n → ValuesFailFor n text q → ⊥
+values_stand_for text n problem.InputTooLong r h = let within = r.within in omega (arith, within, h)
+values_stand_for text n (problem.Fault f) r h = never _ _ r.read h.1
+
 values_stand : (texts : MineTexts) (n : ℕ) (q : Problem UpitFault) → WorthsRead texts n → ValuesFail texts q → ⊥
 values_stand (mine_texts u p) n problem.InputTooLong r h = let within = r.within in omega (arith, within, h)
 values_stand (mine_texts u p) n (problem.Fault f) r h = values_fault u n f r h.1
 values_stand (priced_texts s b p k) n q r h = h
 values_stand (sloped_texts s b k) n q r h = h
+values_stand (valued_texts s b v) n q r h = values_stand_for v n q r.1 (subst (λ m. ValuesFailFor m v q) (sym h.1.count ∙ r.0.count) h.2)
 
 -- what the settings name is one thing
 columns_stand : (needed : SettingsView → List Key) (unused : List Key) (settings : List ℕ) (q : Problem SettingsFault) → KeysSaid needed unused settings → SettingsFails needed unused settings q → ⊥
@@ -68,6 +73,7 @@ settings_stand : (texts : MineTexts) (n : ℕ) (q : Problem SettingsFault) → W
 settings_stand (mine_texts u p) n q r h = h
 settings_stand (priced_texts s b p k) n q r h = columns_stand price_keys slope_keys s q r.columns h
 settings_stand (sloped_texts s b k) n q r h = columns_stand sloped_keys [] s q r.columns h
+settings_stand (valued_texts s b v) n q r h = columns_stand placing_keys [] s q r.0.keys h
 
 pub settings_read : (texts : MineTexts) (certificate : List ℕ) (q : Problem SettingsFault) → Reads texts certificate → SettingsFail texts q → ⊥
 settings_read texts certificate q r h = settings_stand texts r.blocks q r.mine.worths_read h
@@ -78,6 +84,8 @@ blocks_stand (priced_texts s b p k) n problem.InputTooLong r h = let within = r.
 blocks_stand (priced_texts s b p k) n (problem.Fault f) r h = never _ _ r.read h.1.1
 blocks_stand (sloped_texts s b k) n problem.InputTooLong r h = let within = r.within in omega (arith, within, h.1)
 blocks_stand (sloped_texts s b k) n (problem.Fault f) r h = never _ _ r.read h.1.1
+blocks_stand (valued_texts s b v) n problem.InputTooLong r h = let within = r.0.within in omega (arith, within, h.1)
+blocks_stand (valued_texts s b v) n (problem.Fault f) r h = never _ _ r.0.read h.1.1
 
 pub blocks_read : (texts : MineTexts) (certificate : List ℕ) (q : Problem BlocksFault) → Reads texts certificate → BlocksFail texts q → ⊥
 blocks_read texts certificate q r h = blocks_stand texts r.blocks q r.mine.worths_read h
@@ -141,6 +149,7 @@ prices_stand : (texts : MineTexts) (n : ℕ) (fault : PricesFault) → WorthsRea
 prices_stand (mine_texts u p) n fault r h = h
 prices_stand (priced_texts s b p k) n fault r h = table_stands prices_alone s b n fault r h
 prices_stand (sloped_texts s b k) n fault r h = table_stands prices_and_slopes s b n fault r h
+prices_stand (valued_texts s b v) n fault r h = h
 
 pub prices_read : (texts : MineTexts) (certificate : List ℕ) (fault : PricesFault) → Reads texts certificate → TableFails texts fault → ⊥
 prices_read texts certificate fault r h = prices_stand texts r.blocks fault r.mine.worths_read h
@@ -153,6 +162,7 @@ pub one_size : (texts : MineTexts) (n m : ℕ) → WorthsRead texts n → Worths
 one_size (mine_texts u p) n m a b = let e = sym a.declared ∙ b.declared in cc
 one_size (priced_texts s b p k) n m a b' = sym a.count ∙ b'.count
 one_size (sloped_texts s b k) n m a b' = sym a.count ∙ b'.count
+one_size (valued_texts s b v) n m a b' = sym a.0.count ∙ b'.0.count
 
 precedence_stands : (text : List ℕ) (n : ℕ) (q : Problem PrecFault) → PrecedenceRead text n → PrecFails n text q → ⊥
 precedence_stands text n problem.InputTooLong r h = let within = r.within in omega (arith, within, h)
@@ -162,6 +172,7 @@ rests_stand : (texts : MineTexts) (n : ℕ) (q : Problem PrecFault) → RestsRea
 rests_stand (mine_texts u p) n q r h = precedence_stands p n q r h
 rests_stand (priced_texts s b p k) n q r h = precedence_stands p n q r h
 rests_stand (sloped_texts s b k) n q r h = h
+rests_stand (valued_texts s b v) n q r h = h
 
 pub prec_read : (texts : MineTexts) (certificate : List ℕ) (n : ℕ) (q : Problem PrecFault) → Reads texts certificate → WorthsRead texts n → PrecedenceFails texts n q → ⊥
 prec_read texts certificate n q r v h = rests_stand texts n q (subst (RestsRead texts) (one_size texts r.blocks n r.mine.worths_read v) r.mine.rests_read) h
@@ -182,6 +193,7 @@ slopes_stand : (texts : MineTexts) (n : ℕ) (q : SlopeProblem) → RestsRead te
 slopes_stand (mine_texts u p) n q r h = absurd h
 slopes_stand (priced_texts s b p k) n q r h = absurd h
 slopes_stand (sloped_texts s b k) n q r h = slopes_right (settings_of s) (placed_in (settings_of s) b) q r h
+slopes_stand (valued_texts s b v) n q r h = slopes_right (settings_of s) (placed_in (settings_of s) b) q r h
 
 pub slopes_read : (texts : MineTexts) (certificate : List ℕ) (q : SlopeProblem) → Reads texts certificate → MineSlopesFail texts q → IsTooManyToList q
 slopes_read texts certificate q r h = slopes_stand texts r.blocks q r.mine.rests_read h

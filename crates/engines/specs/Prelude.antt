@@ -10,7 +10,7 @@ pub use Rattle.engines.specs.OutputLines.{fault_line, fault_words, group_mark, i
 pub use Rattle.engines.specs.Placed.{IsAcceptedText, IsDueCertificate, SendsText}
 pub use Rattle.engines.specs.Readings.{IsGroupNamed, IsHeader, IsProvedPit, Reads, TellsSizes, block_by, counts_by}
 pub use Rattle.engines.specs.Refusals.{IsFaultless, SaysPit, SomeSumLeaves, TextBegins, TextRefused, TextRefusesLine, flow_for, lines_for}
-pub use Rattle.engines.specs.SlopePairs.{AreSlopePairs, SlopesAreTheirPairs}
+pub use Rattle.engines.specs.SlopePairs.{AreSlopePairs, SlopesAreTheirPairs, ValuedSlopesAreTheirPairs}
 pub use Rattle.engines.specs.Small.{AreSmall, IsSmall, IsSmallFlow}
 pub use Rattle.engines.specs.Solving.{AnswersMine, AnswersNet, CheckOverflows, IsCertificate, IsCertificateOf, IsDueFor, IsNetBy, IsNoOf, IsTextOf, MachineStands, MayGiveUp, SolveAtFault, SolveFails, Solves, SolvesNet, SomeNumberOverflows, UnsolvedStands, WritesSolveFront, unsolved_by}
 pub use Rattle.engines.specs.Verdicts.{verdict_of}

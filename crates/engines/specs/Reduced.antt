@@ -9,7 +9,7 @@ use Rattle.slope.specs.declared.selection.Selection.{Selection}
 use Rattle.slope.specs.declared.selection.Selection.TheVariants.{Every, Reduced}
 use Rattle.slope.specs.declared.up.Up.{Up}
 use Rattle.closure_net.specs.Mine.{Mine, IsBest}
-use Rattle.mine_inputs.specs.Mines.{MineTexts, mine_texts, priced_texts, sloped_texts, mine_of}
+use Rattle.mine_inputs.specs.Mines.{MineTexts, mine_texts, priced_texts, sloped_texts, valued_texts, mine_of}
 
 -- The mine of n blocks with these pairs and worths.
 abbrev pub mine_of_pairs : ℕ → List (ℕ × ℕ) → (ℕ → ℤ) → Mine
@@ -27,6 +27,7 @@ abbrev pub with_precedence : MineTexts → List ℕ → MineTexts
 with_precedence (mine_texts values precedence) bytes = mine_texts values bytes
 with_precedence (priced_texts settings blocks precedence factor) bytes = priced_texts settings blocks bytes factor
 with_precedence (sloped_texts settings blocks factor) bytes = priced_texts settings blocks bytes factor
+with_precedence (valued_texts settings blocks values) bytes = mine_texts values bytes
 
 -- the pairs of a pattern that are selected, where a precedence file may have them: not too many, and not too many of
 -- one block

@@ -6,7 +6,7 @@ use Rattle.prec_file.specs.declared.limits.TheConstants.{MOST_PAIRS}
 use Rattle.settings_file.specs.Settings.{settings_of}
 use Rattle.slope.specs.Prelude.{AreOwnSlopes, own_offsets}
 use Rattle.slope.specs.declared.selection.Selection.TheVariants.{Every}
-use Rattle.mine_inputs.specs.Prelude.{DenoteMine, placed_in, priced_texts, slopes_said, sloped_texts, table_of, up_said}
+use Rattle.mine_inputs.specs.Prelude.{DenoteMine, mine_texts, placed_in, priced_texts, slopes_said, sloped_texts, table_of, up_said, valued_texts}
 use Rattle.engines.specs.Judgements.{CertificateAccepted}
 
 -- The pairs that the slopes of settings give of the blocks of a text, where a precedence file may have them.
@@ -22,3 +22,10 @@ abbrev pub SlopesAreTheirPairs : Type 0
 SlopesAreTheirPairs = (settings settings' blocks : List ℕ) (rests : RestsView) (factor n : ℕ) → AreSlopePairs settings blocks rests → table_of settings blocks ≡ table_of settings' blocks
     → DenoteMine (sloped_texts settings blocks factor) n → DenoteMine (priced_texts settings' blocks (prec_text rests) factor) n
     → (certificate : List ℕ) (name : Group) (count : ℕ) (worth : ℤ) → CertificateAccepted (sloped_texts settings blocks factor) certificate name count worth ↔ CertificateAccepted (priced_texts settings' blocks (prec_text rests) factor) certificate name count worth
+
+-- The same of blocks with values: settings list slopes, and the values stand beside them and the blocks; or beside the
+-- precedence file of all pairs that those slopes give, and nothing else.
+abbrev pub ValuedSlopesAreTheirPairs : Type 0
+ValuedSlopesAreTheirPairs = (settings blocks values : List ℕ) (rests : RestsView) (n : ℕ) → AreSlopePairs settings blocks rests
+    → DenoteMine (valued_texts settings blocks values) n → DenoteMine (mine_texts values (prec_text rests)) n
+    → (certificate : List ℕ) (name : Group) (count : ℕ) (worth : ℤ) → CertificateAccepted (valued_texts settings blocks values) certificate name count worth ↔ CertificateAccepted (mine_texts values (prec_text rests)) certificate name count worth

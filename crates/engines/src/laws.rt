@@ -4,7 +4,7 @@
 
 ghost use Rattle.engines.specs.Nested.{AcceptedAreNested};
 ghost use Rattle.engines.specs.Reduced.{ReducedPairsDecide, ReducedTextsDecide};
-ghost use Rattle.engines.specs.SlopePairs.{SlopesAreTheirPairs};
+ghost use Rattle.engines.specs.SlopePairs.{SlopesAreTheirPairs, ValuedSlopesAreTheirPairs};
 
 /// Of two pits that [`check_engine`](crate::check_engine) accepts over one price table, in amounts with
 /// sizes, the one at the lower factor lies within the other.
@@ -25,7 +25,9 @@ pub fn reduced_texts_decide()
 {}
 
 /// A mine by the slopes that settings list, and the same mine by the precedence file of all pairs that these slopes
-/// give: the same bytes are accepted as a certificate over both, with one count and one worth.
+/// give: the same bytes are accepted as a certificate over both, with one count and one worth, whether their blocks
+/// have prices or values.
 pub fn slopes_are_their_pairs()
-    ensures { SlopesAreTheirPairs }
+    ensures priced { SlopesAreTheirPairs }
+    ensures valued { ValuedSlopesAreTheirPairs }
 {}

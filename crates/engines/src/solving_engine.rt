@@ -85,7 +85,8 @@ pub fn solve_engine<
         → NoneFailed inputs.old inputs.new D.failed × (W.failed out.new ≡ W.failed out.old) }
 {
     match inputs {
-        MineInputs::Sloped { .. } if asked.effort.method != Method::PushRelabel => {
+        MineInputs::Sloped { .. } | MineInputs::Valued { .. }
+            if asked.effort.method != Method::PushRelabel => {
             solve_held_inputs(rt, alloc, inputs, asked, gate, out)
         }
         _ => solve_listed_inputs(rt, alloc, inputs, asked, gate, out),

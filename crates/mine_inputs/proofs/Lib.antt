@@ -6,3 +6,4 @@ pub mod PricedAnswers
 pub mod Listed
 pub mod MinesRead
 pub mod SlopedAnswers
+pub mod ValuedAnswers

@@ -3,8 +3,9 @@ use Rattle.std.proofs.Common.{◌≡◌, ℕ, ◌+◌, List, refl, ap, arith, Op
 use Rattle.mine_inputs.specs.declared.mines.WorthInputs.{WorthInputs}
 use Rattle.mine_inputs.specs.declared.mines.WorthInputs.TheVariants.{Values, Prices}
 use Rattle.mine_inputs.specs.declared.mines.MineInputs.{MineInputs}
-use Rattle.mine_inputs.specs.declared.mines.MineInputs.TheVariants.{Listed, Sloped}
-use Rattle.mine_inputs.specs.Prelude.{ForWorths, ForTexts, worths_failures, mine_failures, is_priced, kind_of, listed_kind, NoWorthsFailed, NoneFailed, OneFailed, MineTexts, mine_texts, priced_texts, sloped_texts}
+use Rattle.mine_inputs.specs.declared.mines.MineInputs.TheVariants.{Listed, Sloped, Valued}
+use Rattle.mine_inputs.specs.Prelude.{ForWorths, ForTexts, worths_failures, mine_failures, is_priced, kind_of, listed_kind, NoWorthsFailed, NoneFailed, OneFailed, MineTexts, mine_texts, priced_texts, sloped_texts, valued_texts}
+use Rattle.mine_inputs.proofs.PricedAnswers.{under3}
 
 -- ---- texts
 
@@ -20,6 +21,10 @@ pub under2 : (o r : Option (List ℕ)) (P Q : List ℕ → List ℕ → Type 0) 
 under2 (Some u) (Some p) P Q h f = f u p h
 under2 _ _ P Q h f = tt
 
+pub always3 : (o q r : Option (List ℕ)) (Q : List ℕ → List ℕ → List ℕ → Type 0) → ((s b v : List ℕ) → Q s b v) → IfSome o (λ s. IfSome q (λ b. IfSome r (λ v. Q s b v)))
+always3 (Some s) (Some b) (Some v) Q f = f s b v
+always3 _ _ _ Q f = tt
+
 -- what holds of all texts
 all_worths : {D : Type 0} (inputs : WorthInputs D) (remaining : D → Option (List ℕ)) (factor : ℕ) (precedence : List ℕ) (Q : MineTexts → Type 0) → ((texts : MineTexts) → Q texts) → ForWorths inputs remaining factor precedence Q
 all_worths (Values upit) remaining factor precedence Q f = always (remaining upit) (λ u. Q (mine_texts u precedence)) (λ u. f (mine_texts u precedence))
@@ -30,12 +35,14 @@ pub all_texts : {D : Type 0} (mine : MineInputs D) (remaining : D → Option (Li
 all_texts (Listed worths prec) remaining factor Q f = always (remaining prec) (λ p. ForWorths worths remaining factor p Q) (λ p. all_worths worths remaining factor p Q f)
 all_texts (Sloped settings blocks) remaining factor Q f =
     always (remaining settings) (λ s. IfSome (remaining blocks) (λ b. Q (sloped_texts s b factor))) (λ s. always (remaining blocks) (λ b. Q (sloped_texts s b factor)) (λ b. f (sloped_texts s b factor)))
+all_texts (Valued settings blocks upit) remaining factor Q f = always3 (remaining settings) (remaining blocks) (remaining upit) (λ s b v. Q (valued_texts s b v)) (λ s b v. f (valued_texts s b v))
 
 -- the texts have this precedence
 abbrev pub HasPrecedence : MineTexts → List ℕ → Type 0
 HasPrecedence (mine_texts values precedence) p = precedence ≡ p
 HasPrecedence (priced_texts settings blocks precedence factor) p = precedence ≡ p
 HasPrecedence (sloped_texts settings blocks factor) p = ⊥
+HasPrecedence (valued_texts settings blocks values) p = ⊥
 
 -- what follows from what holds of them
 pub for_worths : {D : Type 0} (inputs : WorthInputs D) (remaining : D → Option (List ℕ)) (factor : ℕ) (precedence : List ℕ) (P Q : MineTexts → Type 0) → ForWorths inputs remaining factor precedence P → ((texts : MineTexts) → HasPrecedence texts precedence → P texts → Q texts) → ForWorths inputs remaining factor precedence Q
@@ -45,6 +52,7 @@ for_worths (Prices settings blocks) remaining factor precedence P Q h f = under2
 pub for_texts : {D : Type 0} (mine : MineInputs D) (remaining : D → Option (List ℕ)) (factor : ℕ) (P Q : MineTexts → Type 0) → ForTexts mine remaining factor P → ((texts : MineTexts) → P texts → Q texts) → ForTexts mine remaining factor Q
 for_texts (Listed worths prec) remaining factor P Q h f = under (remaining prec) (λ p. ForWorths worths remaining factor p P) (λ p. ForWorths worths remaining factor p Q) h (λ p a. for_worths worths remaining factor p P Q a (λ texts same x. f texts x))
 for_texts (Sloped settings blocks) remaining factor P Q h f = under2 (remaining settings) (remaining blocks) (λ s b. P (sloped_texts s b factor)) (λ s b. Q (sloped_texts s b factor)) h (λ s b a. f (sloped_texts s b factor) a)
+for_texts (Valued settings blocks upit) remaining factor P Q h f = under3 (remaining settings) (remaining blocks) (remaining upit) (λ s b v. P (valued_texts s b v)) (λ s b v. Q (valued_texts s b v)) h (λ s b v a. f (valued_texts s b v) a)
 
 -- ---- failures
 
@@ -61,11 +69,13 @@ kind_kept _ _ failed h = absurd h
 none_kept : {D : Type 0} (old new : MineInputs D) (failed : D → ℕ) → NoneFailed old new failed → mine_failures new failed ≡ mine_failures old failed
 none_kept (Listed worths prec) (Listed worths' prec') failed h = let kept = worths_kept worths worths' failed h.0 in let same = h.1 in omega (arith, kept, same)
 none_kept (Sloped settings blocks) (Sloped settings' blocks') failed h = omega (arith, h.0, h.1)
+none_kept (Valued settings blocks upit) (Valued settings' blocks' upit') failed h = omega (arith, h.0, h.1, h.2)
 none_kept _ _ failed h = absurd h
 
 kinds_kept : {D : Type 0} (old new : MineInputs D) (failed : D → ℕ) → NoneFailed old new failed → kind_of new ≡ kind_of old
 kinds_kept (Listed worths prec) (Listed worths' prec') failed h = ap listed_kind (kind_kept worths worths' failed h.0)
 kinds_kept (Sloped settings blocks) (Sloped settings' blocks') failed h = refl
+kinds_kept (Valued settings blocks upit) (Valued settings' blocks' upit') failed h = refl
 kinds_kept _ _ failed h = absurd h
 
 -- one of the mine's failed, and none of those beside them

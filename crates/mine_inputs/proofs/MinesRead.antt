@@ -16,7 +16,7 @@ use Rattle.mine_inputs.specs.declared.mines.MineInputs.{MineInputs}
 use Rattle.mine_inputs.specs.declared.columns_of_prices.PriceColumns.{PriceColumns}
 use Rattle.mine_inputs.specs.declared.worths.Worths.{Worths}
 use Rattle.mine_inputs.specs.declared.worths.Worths.TheVariants.{Values, Prices}
-use Rattle.mine_inputs.specs.Prelude.{MineFails, PrecFails, ReadsUpit, ReadsSettingsText, SettingsReadFails, IsMissing, ReadsPrices, PricesReadFail, ReadsPrec, PrecReadFails, PricedMineFails, ForWorths, ForTexts, MineTexts, mine_texts, priced_texts, sloped_texts, rests_of, price_wanted, WorthsRead, RestsRead, PrecedenceRead, PrecedenceFails, AreWorths, ArePairsBy, price_keys, slope_keys, columns_said, table_by, table_of, AreRead, AreWorthsOf, IsMineRead, blocks_valued, nanos_at, price_at}
+use Rattle.mine_inputs.specs.Prelude.{MineFails, PrecFails, ReadsUpit, ReadsSettingsText, SettingsReadFails, IsMissing, ReadsPrices, PricesReadFail, ReadsPrec, PrecReadFails, PricedMineFails, ForWorths, ForTexts, MineTexts, mine_texts, priced_texts, sloped_texts, valued_texts, rests_of, price_wanted, WorthsRead, RestsRead, PrecedenceRead, PrecedenceFails, AreWorths, ArePairsBy, price_keys, slope_keys, columns_said, table_by, table_of, AreRead, AreWorthsOf, IsMineRead, blocks_valued, nanos_at, price_at}
 use Rattle.settings_file.proofs.Known.{settings_are}
 use Rattle.mine_inputs.proofs.MineDevices.{HasPrecedence, always, under, under2, all_texts, for_worths, for_texts}
 use Rattle.mine_inputs.proofs.PricedAnswers.{settings_answer, missing_answer, prices_unsaid, prices_answer, prices_said, priced}
@@ -78,6 +78,7 @@ precedence_fails : (texts : MineTexts) (n : ℕ) (p : List ℕ) (q : Problem Pre
 precedence_fails (mine_texts values precedence) n p q same h = subst (λ (x : List ℕ). PrecFails n x q) (sym same) h
 precedence_fails (priced_texts settings blocks precedence factor) n p q same h = subst (λ (x : List ℕ). PrecFails n x q) (sym same) h
 precedence_fails (sloped_texts settings blocks factor) n p q same h = absurd same
+precedence_fails (valued_texts settings blocks values) n p q same h = absurd same
 
 prec_fails : (texts : MineTexts) (n : ℕ) (p : List ℕ) (e : EngineFault) → HasPrecedence texts p → WorthsRead texts n → PrecReadFails n p e → MineFails texts e
 prec_fails texts n p (engine.Prec q) same v h = (n, v, precedence_fails texts n p q same h)
@@ -93,11 +94,13 @@ precedence_read : (texts : MineTexts) (p : List ℕ) (n : ℕ) → HasPrecedence
 precedence_read (mine_texts values precedence) p n same h = subst (λ (x : List ℕ). PrecedenceRead x n) (sym same) h
 precedence_read (priced_texts settings blocks precedence factor) p n same h = subst (λ (x : List ℕ). PrecedenceRead x n) (sym same) h
 precedence_read (sloped_texts settings blocks factor) p n same h = absurd same
+precedence_read (valued_texts settings blocks values) p n same h = absurd same
 
 pairs_read : (texts : MineTexts) (p : List ℕ) (pairs : List (ℕ × ℕ)) → HasPrecedence texts p → ArePairsOf (prec.pairs_of_text p) pairs → ArePairsBy (rests_of texts) pairs
 pairs_read (mine_texts values precedence) p pairs same h = by_listed (prec.pairs_of_text precedence) pairs (subst (λ (x : List ℕ). ArePairsOf (prec.pairs_of_text x) pairs) (sym same) h)
 pairs_read (priced_texts settings blocks precedence factor) p pairs same h = by_listed (prec.pairs_of_text precedence) pairs (subst (λ (x : List ℕ). ArePairsOf (prec.pairs_of_text x) pairs) (sym same) h)
 pairs_read (sloped_texts settings blocks factor) p pairs same h = absurd same
+pairs_read (valued_texts settings blocks values) p pairs same h = absurd same
 
 -- what is said of the worths that were read and of the pairs, where these are of as many blocks
 pub mine_of_parts : (texts : MineTexts) (factor : ℕ) (worths : Worths) (rests : RestsView) → blocks_valued worths ≡ rests.blocks → AreWorthsOf texts factor worths → RestsRead texts rests.blocks → ArePairsBy (rests_of texts) rests.pairs → IsMineRead texts factor worths rests

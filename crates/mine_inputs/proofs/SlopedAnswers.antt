@@ -21,7 +21,7 @@ use Rattle.mine_inputs.proofs.PricedAnswers.{key_missing, keys_said, settings_re
 
 -- ---- the blocks of a text
 
-places_are : (chosen text : List ℕ) (m : BlocksView) → Denotes chosen text m → m.places ≡ map (λ b. blocks.place_of_record (blocks.record_among (blocks.lines_in text) b)) (range_with_len 0 (blocks.record_count_of text))
+pub places_are : (chosen text : List ℕ) (m : BlocksView) → Denotes chosen text m → m.places ≡ map (λ b. blocks.place_of_record (blocks.record_among (blocks.lines_in text) b)) (range_with_len 0 (blocks.record_count_of text))
 places_are chosen text m d =
     let n = blocks.record_count_of text in
     let place : ℕ → Place = λ b. blocks.place_of_record (blocks.record_among (blocks.lines_in text) b) in
@@ -33,7 +33,7 @@ places_are chosen text m d =
     let inside : b < n = omega (arith, below, count) in
     d.place b below ∙ sym (get_or-map-range_with_len place 0 n b b origin inside (omega arith)))
 
-column_of_text : (chosen text : List ℕ) (m : BlocksView) (i : ℕ) → Denotes chosen text m → i < length chosen → get_or m.columns i [] ≡ cells text (get_or chosen i 0)
+pub column_of_text : (chosen text : List ℕ) (m : BlocksView) (i : ℕ) → Denotes chosen text m → i < length chosen → get_or m.columns i [] ≡ cells text (get_or chosen i 0)
 column_of_text chosen text m i d h =
     sym (read_again (get_or m.columns i []) m.blocks (λ b. get_or (get_or m.columns i []) b (pos 0)) (d.all_values i h) (λ b l. refl)) ∙ column_is chosen text m i d h
 

@@ -16,11 +16,11 @@ use Rattle.fixed_worth.specs.declared.whole_input.InputFault.{InputFault}
 use Rattle.fixed_worth.specs.declared.whole_input.InputFault.TheVariants as input
 use Rattle.mine_inputs.specs.declared.columns_of_prices.PriceColumns.{PriceColumns}
 use Rattle.mine_inputs.specs.Limits.{IsTooLong, IsWithinLimit}
-use Rattle.mine_inputs.specs.PricedTexts.{price_keys, slope_keys, first_unused, column_list, first_columns, table_at, PricesRead, columns_beside, columns_said, SettingsFaultStands, SettingsFails, PricedBlocksFail, PricesFail}
+use Rattle.mine_inputs.specs.PricedTexts.{price_keys, slope_keys, first_unused, column_list, first_columns, table_at, PricesRead, columns_beside, columns_said, SettingsFaultStands, SettingsFails, PricedBlocksFail, PricedBlocksFailBy, PricesFail}
 use Rattle.mine_inputs.specs.BlockTexts.{BlocksFails, ReadsBlocks}
-use Rattle.mine_inputs.specs.SlopedTexts.{SlopesFail, region_columns, sloped_keys}
-use Rattle.mine_inputs.specs.Mines.{ValuesRead}
-use Rattle.mine_inputs.specs.FaultStands.{PrecFails}
+use Rattle.mine_inputs.specs.SlopedTexts.{SlopesFail, placing_keys, region_columns, sloped_keys, slopes_alone}
+use Rattle.mine_inputs.specs.Mines.{ValuesRead, ValuesReadFor}
+use Rattle.mine_inputs.specs.FaultStands.{PrecFails, ValuesFailFor}
 
 -- what is answered where an input can't be read to its end: this fault where it is too long
 abbrev pub unread_fault : InputFault → EngineFault → EngineFault
@@ -31,6 +31,16 @@ unread_fault input.NoMemory too_long = engine.Memory
 -- the values are those of the text, for the blocks that it declares
 abbrev pub ReadsUpit : List ℕ → upit.UpitView → Type 0
 ReadsUpit text values = ValuesRead text (length values.values) × upit.Denotes (length values.values) text values
+
+-- the values are those of the text, for n blocks
+abbrev pub ReadsValues : ℕ → List ℕ → upit.UpitView → Type 0
+ReadsValues n text values = ValuesReadFor text n × upit.Denotes n text values
+
+abbrev pub ValuesReadFail : ℕ → List ℕ → EngineFault → Type 0
+ValuesReadFail n text (engine.Upit p) = ValuesFailFor n text p
+ValuesReadFail n text engine.Memory = Unit {0}
+ValuesReadFail n text engine.Device = Unit {0}
+ValuesReadFail n text _ = ⊥
 
 -- the pairs are those of the text
 abbrev pub ReadsPrec : ℕ → List ℕ → RestsView → Type 0
@@ -101,3 +111,22 @@ abbrev pub PairsSaidFail : SettingsView → BlocksView → EngineFault → Type 
 PairsSaidFail said m (engine.Slope p) = SlopesFail said m p
 PairsSaidFail said m engine.Memory = Unit {0}
 PairsSaidFail said m _ = ⊥
+
+-- What was read of settings that list slopes, and of the blocks with the column of regions.
+pub record ArePlacedTexts (settings text : List ℕ) (said : SettingsView) (m : BlocksView) : Type 0 where
+  pub settings_read : ReadsSettingsText [] settings said
+  pub whole : first_missing (placing_keys said) said ≡ None
+  pub blocks_read : ReadsBlocks (region_columns said) text m
+
+-- why settings that list slopes, or the blocks beside them, aren't read
+abbrev pub PlacesFail : List ℕ → List ℕ → EngineFault → Type 0
+PlacesFail settings text (engine.Settings p) = SettingsFails placing_keys [] settings p
+PlacesFail settings text (engine.Blocks p) = PricedBlocksFailBy slopes_alone settings text p
+PlacesFail settings text engine.Memory = Unit {0}
+PlacesFail settings text engine.Device = Unit {0}
+PlacesFail settings text _ = ⊥
+
+-- What was read of the texts of a mine of places and values: the settings, the blocks, and as many values.
+pub record AreValuedTexts (settings text values : List ℕ) (said : SettingsView) (m : BlocksView) (given : upit.UpitView) : Type 0 where
+  pub placed : ArePlacedTexts settings text said m
+  pub valued : ReadsValues m.blocks values given

@@ -3,8 +3,8 @@ use Rattle.std.specs.Prelude.{◌≡◌, ℕ, ◌+◌, ◌-◌, ◌^◌, ◌<◌
 use Rattle.mine_inputs.specs.declared.mines.WorthInputs.{WorthInputs}
 use Rattle.mine_inputs.specs.declared.mines.WorthInputs.TheVariants.{Values, Prices}
 use Rattle.mine_inputs.specs.declared.mines.MineInputs.{MineInputs}
-use Rattle.mine_inputs.specs.declared.mines.MineInputs.TheVariants.{Listed, Sloped}
-use Rattle.mine_inputs.specs.Mines.{MineTexts, mine_texts, priced_texts, sloped_texts}
+use Rattle.mine_inputs.specs.declared.mines.MineInputs.TheVariants.{Listed, Sloped, Valued}
+use Rattle.mine_inputs.specs.Mines.{MineTexts, mine_texts, priced_texts, sloped_texts, valued_texts}
 
 -- ---- texts
 
@@ -18,6 +18,7 @@ ForWorths (Prices settings blocks) remaining factor precedence P = IfSome (remai
 abbrev pub ForTexts : {D : Type 0} → MineInputs D → (D → Option (List ℕ)) → ℕ → (MineTexts → Type 0) → Type 0
 ForTexts (Listed worths prec) remaining factor P = IfSome (remaining prec) (λ p. ForWorths worths remaining factor p P)
 ForTexts (Sloped settings blocks) remaining factor P = IfSome (remaining settings) (λ s. IfSome (remaining blocks) (λ b. P (sloped_texts s b factor)))
+ForTexts (Valued settings blocks upit) remaining factor P = IfSome (remaining settings) (λ s. IfSome (remaining blocks) (λ b. IfSome (remaining upit) (λ v. P (valued_texts s b v))))
 
 -- ---- failures
 
@@ -29,6 +30,7 @@ WorthsCanCount (Prices settings blocks) failed = (failed settings < 2 ^ 64 - 1) 
 abbrev pub CanCount : {D : Type 0} → MineInputs D → (D → ℕ) → Type 0
 CanCount (Listed worths prec) failed = WorthsCanCount worths failed × (failed prec < 2 ^ 64 - 1)
 CanCount (Sloped settings blocks) failed = (failed settings < 2 ^ 64 - 1) × (failed blocks < 2 ^ 64 - 1)
+CanCount (Valued settings blocks upit) failed = (failed settings < 2 ^ 64 - 1) × (failed blocks < 2 ^ 64 - 1) × (failed upit < 2 ^ 64 - 1)
 
 -- the failures that the devices have counted together
 abbrev pub worths_failures : {D : Type 0} → WorthInputs D → (D → ℕ) → ℕ
@@ -38,6 +40,7 @@ worths_failures (Prices settings blocks) failed = failed settings + failed block
 abbrev pub mine_failures : {D : Type 0} → MineInputs D → (D → ℕ) → ℕ
 mine_failures (Listed worths prec) failed = worths_failures worths failed + failed prec
 mine_failures (Sloped settings blocks) failed = failed settings + failed blocks
+mine_failures (Valued settings blocks upit) failed = failed settings + failed blocks + failed upit
 
 -- whether they are devices of prices
 abbrev pub is_priced : {D : Type 0} → WorthInputs D → Bool
@@ -48,10 +51,12 @@ is_priced (Prices settings blocks) = true
 pub data MineKind : Type 0 where
   listed_kind : (priced : Bool) → MineKind
   sloped_kind : MineKind
+  valued_kind : MineKind
 
 abbrev pub kind_of : {D : Type 0} → MineInputs D → MineKind
 kind_of (Listed worths prec) = listed_kind (is_priced worths)
 kind_of (Sloped settings blocks) = sloped_kind
+kind_of (Valued settings blocks upit) = valued_kind
 
 -- each device counts the failures that it had counted, and so none failed
 abbrev pub NoWorthsFailed : {D : Type 0} → WorthInputs D → WorthInputs D → (D → ℕ) → Type 0
@@ -62,6 +67,7 @@ NoWorthsFailed _ _ failed = ⊥
 abbrev pub NoneFailed : {D : Type 0} → MineInputs D → MineInputs D → (D → ℕ) → Type 0
 NoneFailed (Listed worths prec) (Listed worths' prec') failed = NoWorthsFailed worths worths' failed × (failed prec' ≡ failed prec)
 NoneFailed (Sloped settings blocks) (Sloped settings' blocks') failed = (failed settings' ≡ failed settings) × (failed blocks' ≡ failed blocks)
+NoneFailed (Valued settings blocks upit) (Valued settings' blocks' upit') failed = (failed settings' ≡ failed settings) × (failed blocks' ≡ failed blocks) × (failed upit' ≡ failed upit)
 NoneFailed _ _ failed = ⊥
 
 -- the devices of a mine and those beside them, which had counted so many, have counted one failure more together

@@ -1,10 +1,10 @@
 -- What settings say of slopes by region: which block rests on which; and the mine that settings and blocks denote with
 -- no precedence beside them.
-use Rattle.std.specs.Prelude.{ℕ, Bool, List, [], ◌∷◌, map, Option, Some, None, unwrap_or}
+use Rattle.std.specs.Prelude.{◌≡◌, ℕ, Bool, List, [], ◌∷◌, map, Option, Some, None, unwrap_or}
 use Rattle.std.specs.List.{range_with_len}
 use Rattle.blocks_file.specs.Denotes.{BlocksView}
 use Rattle.blocks_file.specs.Records as blocks
-use Rattle.settings_file.specs.Settings.{SettingsView, is_said, names_mill}
+use Rattle.settings_file.specs.Settings.{SettingsView, settings_of, is_said, names_mill}
 use Rattle.settings_file.specs.declared.keys.Key.{Key}
 use Rattle.settings_file.specs.declared.keys.Key.TheVariants.{Slopes, Ways}
 use Rattle.settings_file.specs.declared.up_sign.UpSign.{UpSign}
@@ -16,7 +16,8 @@ use Rattle.slope.specs.declared.up.Up.TheVariants.{PlusZ, MinusZ}
 use Rattle.slope.specs.declared.region_fault.RegionFault.TheVariants as region
 use Rattle.mine_inputs.specs.declared.engine_fault.SlopeProblem.{SlopeProblem}
 use Rattle.mine_inputs.specs.declared.engine_fault.SlopeProblem.TheVariants as of
-use Rattle.mine_inputs.specs.PricedTexts.{Wanted, cells, columns_beside, columns_said, keys_by}
+use Rattle.mine_inputs.specs.Limits.{IsWithinLimit}
+use Rattle.mine_inputs.specs.PricedTexts.{KeysSaid, Wanted, cells, columns_beside, columns_said, keys_by}
 
 -- a column as a list of columns: of one, or of none where no column is named
 abbrev pub columns_for : Option ℕ → List ℕ
@@ -79,6 +80,21 @@ sloped_columns s = columns_beside (columns_said s) (region_columns s)
 -- what is wanted of settings and blocks where slopes stand in the place of a precedence: every key is used
 abbrev pub prices_and_slopes : Wanted
 prices_and_slopes = record { needed = sloped_keys; unused = []; chosen = sloped_columns }
+
+-- the key that settings need of which slopes alone are used: those of prices are neither needed nor looked at
+abbrev pub placing_keys : SettingsView → List Key
+placing_keys s = Slopes ∷ []
+
+-- what is wanted of settings and blocks where they say who rests on whom, and not what blocks are worth
+abbrev pub slopes_alone : Wanted
+slopes_alone = record { needed = placing_keys; unused = []; chosen = region_columns }
+
+-- The settings list slopes, and the text of blocks has the column of regions that they name, of n blocks.
+pub record PlacesRead (settings text : List ℕ) (n : ℕ) : Type 0 where
+  pub keys : KeysSaid placing_keys [] settings
+  pub within : IsWithinLimit text
+  pub read : blocks.fault_of (region_columns (settings_of settings)) text ≡ None
+  pub count : blocks.record_count_of text ≡ n
 
 -- the place of the column of regions after so many others, where settings name it
 abbrev pub column_after : ℕ → Option ℕ → Option ℕ

@@ -4,9 +4,9 @@
 ghost use Rattle.std.specs.Prelude.{◌≡◌, ◌+◌, ◌-◌, ◌^◌, ◌<◌, ℕ, List, length, IfSome, MatchResult, IsErrOf};
 ghost use Rattle.blocks_file.specs.Denotes.{narrowed};
 ghost use Rattle.mine_inputs.specs.FaultStands.{MineFails};
-ghost use Rattle.mine_inputs.specs.Inputs.{AreSlopedTexts, PairsSaidFail};
+ghost use Rattle.mine_inputs.specs.Inputs.{AreSlopedTexts, AreValuedTexts, PairsSaidFail};
 ghost use Rattle.mine_inputs.specs.MineInputs.{ForTexts, CanCount, NoneFailed, OneFailed};
-ghost use Rattle.mine_inputs.specs.Mines.{sloped_texts};
+ghost use Rattle.mine_inputs.specs.Mines.{sloped_texts, valued_texts};
 ghost use Rattle.mine_inputs.specs.PricedTexts.{columns_beside};
 ghost use Rattle.mine_inputs.specs.ReadMines.{ArePairsBy, IsMineRead};
 ghost use Rattle.mine_inputs.specs.SlopedTexts.{SlopesRead, column_after, columns_for, rests_said};
@@ -18,6 +18,7 @@ use crate::mines::{MineInputs, listed_mine};
 use crate::priced_inputs::prices_of;
 use crate::sloped_inputs::up_of;
 use crate::sloped_mines::{SlopedTexts, column_after, sloped_texts_from, slopes_of};
+use crate::valued_mines::{ValuedTexts, valued_texts_from};
 use crate::worths::Worths;
 use blocks_file::BlockModel;
 use fixed_worth::CountedRead;
@@ -120,6 +121,54 @@ fn held_sloped<D: CountedRead>(
     held_of_texts(alloc, read)
 }
 
+// The mine of the blocks and the values that were read.
+fn held_of_values(alloc: Global, read: ValuedTexts) -> Result<HeldMine, EngineFault>
+    ensures read { (factor : ℕ) (s b v : List ℕ)
+        → AreValuedTexts s b v read.settings read.model read.values
+        → MatchResult result
+        (λ mine. IsMineRead (valued_texts s b v) factor mine.worths mine.predecessors)
+        (MineFails (valued_texts s b v)) }
+    ensures no_device { ¬ IsErrOf result EngineFault.Device }
+{
+    let ValuedTexts {
+        settings,
+        model,
+        values,
+    } = read;
+    let predecessors = held_said(alloc, &model, &settings)?;
+    Ok(HeldMine {
+        worths: Worths::Values(values),
+        predecessors,
+    })
+}
+
+// The mine that settings, blocks and values denote.
+fn held_valued<D: CountedRead>(
+    alloc: Global,
+    settings: &mut D,
+    blocks: &mut D,
+    upit: &mut D,
+) -> Result<HeldMine, EngineFault>
+    requires settings_room { D.failed settings.old < 2 ^ 64 - 1 }
+    requires blocks_room { D.failed blocks.old < 2 ^ 64 - 1 }
+    requires upit_room { D.failed upit.old < 2 ^ 64 - 1 }
+    ensures read { (factor : ℕ)
+        → IfSome (D.remaining settings.old) (λ s. IfSome (D.remaining blocks.old) (λ b.
+        IfSome (D.remaining upit.old) (λ v. MatchResult result
+        (λ mine. IsMineRead (valued_texts s b v) factor mine.worths mine.predecessors)
+        (MineFails (valued_texts s b v))))) }
+    ensures device { IsErrOf result EngineFault.Device
+        → D.failed settings.new + D.failed blocks.new + D.failed upit.new
+        ≡ D.failed settings.old + D.failed blocks.old + D.failed upit.old + 1 }
+    ensures kept { ¬ IsErrOf result EngineFault.Device
+        → (D.failed settings.new ≡ D.failed settings.old)
+        × (D.failed blocks.new ≡ D.failed blocks.old)
+        × (D.failed upit.new ≡ D.failed upit.old) }
+{
+    let read = valued_texts_from(alloc, settings, blocks, upit)?;
+    held_of_values(alloc, read)
+}
+
 // The mine that a list of pairs was read for, as one that holds them.
 fn held_listed(mine: MineToCheck) -> HeldMine
     ensures worths { result.worths ≡ mine.worths }
@@ -159,5 +208,10 @@ pub fn held_mine<D: CountedRead>(
             Err(fault) => Err(fault),
         },
         MineInputs::Sloped { settings, blocks } => held_sloped(alloc, settings, blocks),
+        MineInputs::Valued {
+            settings,
+            blocks,
+            upit,
+        } => held_valued(alloc, settings, blocks, upit),
     }
 }

@@ -2,13 +2,14 @@
 
 ghost use Rattle.std.specs.Prelude.{◌≡◌, ◌+◌, ◌-◌, ◌^◌, ◌<◌, ◌≤◌, ◌↔◌, length, IfOk, IfSome, MatchResult, IsErrOf};
 ghost use Rattle.mine_inputs.specs.BlockTexts.{ReadsBlocks, BlocksReadFails};
-ghost use Rattle.mine_inputs.specs.Inputs.{ReadsPrec, PrecReadFails, unread_fault};
+ghost use Rattle.mine_inputs.specs.Inputs.{ReadsPrec, PrecReadFails, ReadsValues, ValuesReadFail, unread_fault};
 
 use crate::engine_fault::{EngineFault, Problem};
 use blocks_file::{BlockModel, MOST_COLUMNS, read_blocks};
 use fixed_worth::{CountedRead, InputFault, MOST_BLOCKS, MOST_BYTES, read_whole};
 use prec_file::{Predecessors, read_predecessors};
 use std::alloc::Global;
+use upit_file::{Upit, read_upit};
 
 /// What is answered where an input can't be read to its end: this fault where it is too long.
 pub fn unread(fault: InputFault, too_long: EngineFault) -> EngineFault
@@ -45,6 +46,28 @@ pub fn blocks_from<R: CountedRead>(
     let text = read_whole(alloc, from, MOST_BYTES).map_err(|fault| unread(fault, too_long))?;
     match read_blocks(alloc, text.as_slice(), columns) {
         Ok(model) => Ok(model),
+        Err(fault) => Err(EngineFault::from(fault)),
+    }
+}
+
+// The values of n blocks.
+pub(crate) fn values_from<R: CountedRead>(
+    alloc: Global,
+    from: &mut R,
+    n: u32,
+) -> Result<Upit, EngineFault>
+    requires { R.failed from.old < 2 ^ 64 - 1 }
+    ensures read { IfSome (R.remaining from.old) (λ text. MatchResult result
+        (ReadsValues n text)
+        (ValuesReadFail n text)) }
+    ensures device { IsErrOf result EngineFault.Device
+        ↔ (R.failed from.new ≡ R.failed from.old + 1) }
+    ensures kept { ¬ IsErrOf result EngineFault.Device → R.failed from.new ≡ R.failed from.old }
+{
+    let too_long = EngineFault::Upit(Problem::InputTooLong);
+    let text = read_whole(alloc, from, MOST_BYTES).map_err(|fault| unread(fault, too_long))?;
+    match read_upit(alloc, text.as_slice(), n) {
+        Ok(values) => Ok(values),
         Err(fault) => Err(EngineFault::from(fault)),
     }
 }

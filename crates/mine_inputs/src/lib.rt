@@ -22,6 +22,7 @@ mod mines;
 mod priced_inputs;
 mod sloped_inputs;
 mod sloped_mines;
+mod valued_mines;
 mod way_list;
 mod worths;
 

@@ -13,6 +13,7 @@ use crate::engine_fault::{EngineFault, Problem};
 use crate::inputs::{predecessors_from, unread};
 use crate::priced_inputs::{priced_settings_from, prices_from};
 use crate::sloped_mines::sloped_mine;
+use crate::valued_mines::valued_mine;
 use crate::worths::Worths;
 use certificate_file::Price;
 use fixed_worth::{CountedRead, MOST_BYTES, read_whole};
@@ -56,6 +57,15 @@ pub enum MineInputs<D> {
         settings: D,
         /// MineLib's `.blocks`, which has these columns and the places.
         blocks: D,
+    },
+    /// The blocks have values, and rest on one another by slopes.
+    Valued {
+        /// The settings, which list the slopes of each region, and say in which column a block's region stands.
+        settings: D,
+        /// MineLib's `.blocks`, which has this column and the places.
+        blocks: D,
+        /// MineLib's `.upit`.
+        upit: D,
     },
 }
 
@@ -128,8 +138,9 @@ pub(crate) fn listed_mine<D: CountedRead>(
 ///
 /// # Errors
 /// Of values: `Upit`. Of prices, in this order: `Settings` for a fault of this text or a missing key; `Blocks`;
-/// `Prices` for a negative revenue. Then `Prec`; or, where slopes say what rests on what, `Slope` with the first fault
-/// of `predecessors_by_region`. `Memory` where memory is refused, `Device` where a read fails.
+/// `Prices` for a negative revenue. Of values beside slopes, in this order: `Settings`; `Blocks`; `Upit`, also where
+/// there are more or fewer values than blocks. Then `Prec`; or, where slopes say what rests on what, `Slope` with the
+/// first fault of `predecessors_by_region`. `Memory` where memory is refused, `Device` where a read fails.
 pub fn mine_to_check<D: CountedRead>(
     alloc: Global,
     inputs: &mut MineInputs<D>,
@@ -146,6 +157,11 @@ pub fn mine_to_check<D: CountedRead>(
     match inputs {
         MineInputs::Listed { worths, prec } => listed_mine(alloc, worths, prec),
         MineInputs::Sloped { settings, blocks } => sloped_mine(alloc, settings, blocks),
+        MineInputs::Valued {
+            settings,
+            blocks,
+            upit,
+        } => valued_mine(alloc, settings, blocks, upit),
     }
 }
 

@@ -113,7 +113,7 @@ pub(crate) fn slopes_of(settings: &Settings) -> &[Vec<(i32, i32, i32)>]
 }
 
 // Who rests on whom by the slopes that settings list.
-fn pairs_said(
+pub(crate) fn pairs_said(
     alloc: Global,
     model: &BlockModel,
     settings: &Settings,

@@ -85,7 +85,8 @@ pub fn uses_file<'a>(uses: Option<&'a str>, model: ModelArgs<'a>) -> &'a str {
         (Some(uses), _) => uses,
         (None, ModelArgs::Prices { blocks, .. }) => blocks,
         (None, ModelArgs::Sloped { blocks, .. }) => blocks,
-        // the command line needs the option beside values
+        (None, ModelArgs::Valued { blocks, .. }) => blocks,
+        // the command line needs the option where there are no blocks
         (None, ModelArgs::Values { .. }) => "",
     }
 }

@@ -287,7 +287,7 @@ pub fn factor_asked<'a>(
     value: Option<&'a str>,
 ) -> Result<Factor, WrongValue<'a>> {
     let value = match model {
-        ModelArgs::Values { .. } => "0",
+        ModelArgs::Values { .. } | ModelArgs::Valued { .. } => "0",
         ModelArgs::Prices { .. } | ModelArgs::Sloped { .. } => value.unwrap_or(""),
     };
     factor_named(value.as_bytes()).ok_or(wrong(command, NamedOption::Factor, value))

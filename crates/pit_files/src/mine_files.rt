@@ -43,5 +43,20 @@ pub fn open_mine<'a, R: Files + Eprint + AllocGlobal>(
             let blocks = open_file(rt, verbose, blocks, Heard::nothing(rt.alloc()))?;
             Ok(MineInputs::Sloped { settings, blocks })
         }
+        ModelArgs::Valued {
+            settings,
+            blocks,
+            upit,
+        } => {
+            let heard = Heard::of_sloped_settings(rt.alloc(), verbose);
+            let settings = open_file(rt, verbose, settings, heard)?;
+            let blocks = open_file(rt, verbose, blocks, Heard::nothing(rt.alloc()))?;
+            let upit = open_file(rt, verbose, upit, Heard::nothing(rt.alloc()))?;
+            Ok(MineInputs::Valued {
+                settings,
+                blocks,
+                upit,
+            })
+        }
     }
 }

@@ -19,3 +19,7 @@ returns-in-Err-clause-read g c = λ factor.
 pub returns-in-Sloped-clause-read : goal.returns-in-Sloped-clause-read
 returns-in-Sloped-clause-read g c = λ factor.
     subst (λ i. ForTexts i g.D.Read.remaining factor (λ texts. MatchResult c.held_sloped.result (λ mine. IsMineRead texts factor mine.worths mine.predecessors) (MineFails texts))) (sym c.in-Sloped.is) (c.held_sloped.ensures.read factor)
+
+pub returns-in-Valued-clause-read : goal.returns-in-Valued-clause-read
+returns-in-Valued-clause-read g c = λ factor.
+    subst (λ i. ForTexts i g.D.Read.remaining factor (λ texts. MatchResult c.held_valued.result (λ mine. IsMineRead texts factor mine.worths mine.predecessors) (MineFails texts))) (sym c.in-Valued.is) (c.held_valued.ensures.read factor)
