@@ -11,5 +11,5 @@ mod open_pairs;
 mod rows;
 mod sums;
 
-pub use open_pairs::{OpenPairs, count_marked, open_pairs_of};
+pub use open_pairs::{OpenPairs, count_marked, is_closed, open_pairs_of};
 pub use sums::worth_of_marked;

@@ -1,7 +1,7 @@
 //! Counts the pairs that lead from a block of a design to a predecessor outside it, and gives the first of them; also
 //! counts the design's blocks.
 
-ghost use Rattle.std.specs.Prelude.{◌≡◌, ℕ, ◌+◌, ◌<◌, ◌≤◌, ◌^◌, All, Bool, cond, List, [], ◌∷◌, ◌++◌, length, IfOk, OnOk};
+ghost use Rattle.std.specs.Prelude.{◌≡◌, ℕ, ◌+◌, ◌<◌, ◌≤◌, ◌^◌, All, Bool, false, IsTrue, cond, List, [], ◌∷◌, ◌++◌, length, IfOk, OnOk};
 ghost use Rattle.prec_file.specs.Rests.{IsKnown};
 ghost use Rattle.places.specs.Implied.{implied, pairs_below};
 ghost use Rattle.ordered_group.specs.Sets.{count_in};
@@ -26,6 +26,20 @@ pub struct OpenPairs {
 
 // The most pairs that are told.
 const MOST_TOLD: usize = 20;
+
+/// Whether no pair leads out of a set of marked blocks, whoever holds the pairs. Takes no memory.
+pub fn is_closed<P: Precedence>(held: &P, marks: &[bool]) -> bool
+    requires { length marks.now ≡ (P.shown held.now).blocks }
+    ensures { IsTrue result → (b p : ℕ) → IsTrue ((P.shown held.now).rests b p)
+        → leads_out (marked_in marks.now) (b, p) ≡ false }
+{
+    for b in 0..held.len() {
+        if leads_from(held, marks, b) {
+            return false;
+        }
+    }
+    true
+}
 
 // Takes in a pair, which leads out or doesn't.
 fn pass_pair(leading: &mut OpenPairs, pair: (u32, u32), leads: bool) -> Result<(), AllocError>

@@ -6,6 +6,7 @@ use Rattle.ordered_group.specs.Prelude.{Amount, worth_in}
 use Rattle.prec_file.specs.Rests.{IsRests, has_pair}
 use Rattle.closure_net.specs.Prelude.{NetView, holds_of, IsAscending, Mine, IsBest, IsNetOf}
 use Rattle.shells.specs.Prelude.{PricesView, priced_count, worth_at, NoRevenueNegative, mine_at}
+use Rattle.places.specs.Ways.{PrecedenceView}
 use Rattle.sub_mines.specs.Prelude.{union_of, difference_of, every_block, IsFloor, IsCeiling, number_in, IsKept, IsPartPairs}
 use Rattle.shell_engines.specs.declared.mine_parts.Part.{Part}
 use Rattle.shell_engines.specs.declared.mine_parts.Halved.{Halved}
@@ -39,11 +40,11 @@ IsPart pairs prices factors part = LiesBetweenLists pairs prices factors part.fr
 abbrev pub mine_among : List (ℕ × ℕ) → PricesView → List ℕ → ℕ → Mine
 mine_among less prices kept k = record { blocks = length kept; rests = has_pair less; worth = λ i. worth_at prices k (number_in kept i) }
 
--- the net is that of these blocks alone, with the pairs among them
-pub record IsNetAmong (block : ℤ → ℕ → Amount) (pairs : List (ℕ × ℕ)) (prices : PricesView) (kept : List ℕ) (k : ℕ) (net : NetView) : Type 0 where
-  pub less : List (ℕ × ℕ)
-  pub part : IsPartPairs kept pairs less
-  pub of : IsNetOf block (mine_among less prices kept k) net
+-- The net is that of these blocks alone with some of the pairs among them: by each of its pairs one rests on another.
+pub record IsFewNet (block : ℤ → ℕ → Amount) (v : PrecedenceView) (prices : PricesView) (kept : List ℕ) (k : ℕ) (net : NetView) : Type 0 where
+  pub few : List (ℕ × ℕ)
+  pub held : (b p : ℕ) → Contains few (b, p) → IsTrue (v.rests b p)
+  pub of : IsNetOf block (mine_among few prices kept k) net
 
 -- the places are the best pit of the mine of these blocks alone
 pub record IsBestAmong (pairs : List (ℕ × ℕ)) (prices : PricesView) (kept : List ℕ) (k : ℕ) (places : List ℕ) : Type 0 where
