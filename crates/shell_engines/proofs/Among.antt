@@ -1,14 +1,16 @@
 -- The net of some blocks alone, what a pit of them is worth, and what parts give.
+use Rattle.std.specs.Prelude.{Result, Ok, Err, MatchResult}
 use Rattle.fixed_worth.proofs.Common.{◌≡◌, ℕ, zero, suc, ◌+ℤ◌, ℤ, pos, ◌<◌, Bool, true, false, All, List, [], ◌∷◌, ◌++◌, nat_lt, cond, length, map, get_or, refl, sym, subst, ap, ◌∙◌, arith, length-map, get_or-map, ltb-true, All-append}
 use Rattle.ordered_group.specs.Prelude.{Amount, zero_amount, worth_in}
-use Rattle.closure_net.specs.Prelude.{NetView, net_view, holds_of, IsAscending, IsBest, IsNetOf}
+use Rattle.closure_net.specs.Prelude.{NetView, net_view, holds_of, IsAscending, IsBest, IsNetOf, WorthsFaultStands}
+use Rattle.closure_net.specs.declared.net.NetFault.{NetFault}
 use Rattle.shells.specs.Prelude.{PricesView, priced_count, worth_at, mine_at}
 use Rattle.engines.proofs.Counted.{count_in-ascending}
-use Rattle.sub_mines.specs.Prelude.{every_block, number_in}
+use Rattle.sub_mines.specs.Prelude.{every_block, number_in, IsPartPairs}
 use Rattle.sub_mines.proofs.Kept.{listed}
 use Rattle.sub_mines.proofs.Renumbering.{worth_listed}
 use Rattle.shell_engines.specs.declared.mine_parts.Part.{Part}
-use Rattle.shell_engines.specs.Prelude.{IsRowOf, mine_among}
+use Rattle.shell_engines.specs.Prelude.{IsRowOf, IsNetAmong, mine_among}
 use Rattle.shell_engines.proofs.Parting.{own_list}
 use Rattle.shell_engines.proofs.Proving.{all_one}
 use Rattle.prec_file.proofs.Pairs.{rests_of_pair, pair_of_rests}
@@ -27,6 +29,15 @@ net_of block less prices kept k n nanos net counted are is =
           ap (λ (x : NetView). get_or x.worths b zero_amount) made ∙ get_or-map (λ v. block v m) worths b (pos 0) zero_amount inside ∙ ap (λ v. block v m) (get_or-map (worth_at prices k) kept b 0 (pos 0) l);
       pairs = λ b p. rw (ap (λ (x : NetView). x.pairs) made) (rests_of_pair less b p, pair_of_rests less b p);
     }
+
+-- what making the net of some blocks gives: it, or why an amount doesn't fit
+pub net_made : (block : ℤ → ℕ → Amount) (pairs less : List (ℕ × ℕ)) (prices : PricesView) (kept : List ℕ) (k n : ℕ) (nanos : List ℤ) (made : Result NetView NetFault) → n ≡ length kept → IsPartPairs kept pairs less → nanos ≡ map (worth_at prices k) kept
+    → MatchResult made (λ net. (net ≡ net_view less (map (λ v. block v n) nanos)) × (n ≡ length nanos)) (WorthsFaultStands block n nanos)
+    → MatchResult made (IsNetAmong block pairs prices kept k) (WorthsFaultStands block (length kept) (map (worth_at prices k) kept))
+net_made block pairs less prices kept k n nanos (Ok net) counted part are h =
+    record { less = less; part = part; of = net_of block less prices kept k n nanos net counted are h.0 }
+net_made block pairs less prices kept k n nanos (Err e) counted part are h =
+    subst (λ (m : ℕ). WorthsFaultStands block m (map (worth_at prices k) kept) e) counted (subst (λ (vs : List ℤ). WorthsFaultStands block n vs e) are h)
 
 -- the worth of a set, with each other block worth nothing
 worth_folded : (v : ℕ → ℤ) (e : ℕ → Bool) (n : ℕ) → worth_in v e n ≡ worth_in (λ b. cond (e b) (v b) (pos 0)) every_block n

@@ -40,6 +40,12 @@ IsPart pairs prices factors part = LiesBetweenLists pairs prices factors part.fr
 abbrev pub mine_among : List (ℕ × ℕ) → PricesView → List ℕ → ℕ → Mine
 mine_among less prices kept k = record { blocks = length kept; rests = has_pair less; worth = λ i. worth_at prices k (number_in kept i) }
 
+-- the net is that of these blocks alone, with the pairs among them
+pub record IsNetAmong (block : ℤ → ℕ → Amount) (pairs : List (ℕ × ℕ)) (prices : PricesView) (kept : List ℕ) (k : ℕ) (net : NetView) : Type 0 where
+  pub less : List (ℕ × ℕ)
+  pub part : IsPartPairs kept pairs less
+  pub of : IsNetOf block (mine_among less prices kept k) net
+
 -- The net is that of these blocks alone with some of the pairs among them: by each of its pairs one rests on another.
 pub record IsFewNet (block : ℤ → ℕ → Amount) (v : PrecedenceView) (prices : PricesView) (kept : List ℕ) (k : ℕ) (net : NetView) : Type 0 where
   pub few : List (ℕ × ℕ)

@@ -1,18 +1,18 @@
 //! Finds the best pit of some of a mine's blocks at a factor: by a list of the pairs among them, or by their places,
 //! whichever holds who rests on whom.
 
-ghost use Rattle.std.specs.Prelude.{◌≡◌, ◌<◌, ◌≤◌, ℕ, Bool, All, IsTrue, IfOk, IfSome, length, map};
+ghost use Rattle.std.specs.Prelude.{◌≡◌, ◌<◌, ◌≤◌, ℕ, All, IsTrue, IfOk, IfSome, MatchResult, length, map};
 ghost use Rattle.ordered_group.specs.Block.{scaled_block};
 ghost use Rattle.closure_net.specs.Closure.{IsGreatest};
+ghost use Rattle.closure_net.specs.Faults.{WorthsFaultStands};
 ghost use Rattle.closure_net.specs.Network.{IsAscending, holds_of};
 ghost use Rattle.places.specs.Grids.{gridded};
 ghost use Rattle.places.specs.Implied.{implied};
-ghost use Rattle.places.specs.Ways.{PrecedenceView};
 ghost use Rattle.design_value.specs.Sums.{marked_in};
 ghost use Rattle.shells.specs.Prices.{priced_count, worth_at};
 ghost use Rattle.sub_mines.specs.AmongGrids.{among as among_view};
 ghost use Rattle.shell_engines.specs.PitsAtFactors.{IsBestOf};
-ghost use Rattle.shell_engines.specs.Parting.{IsBestAmong, IsFewNet};
+ghost use Rattle.shell_engines.specs.Parting.{IsBestAmong, IsFewNet, IsNetAmong};
 
 use crate::best_pits::{BestPit, best_of};
 use crate::series_inputs::SeriesMine;
@@ -47,6 +47,34 @@ fn worths_among(
     Ok(worths)
 }
 
+// The net of these blocks alone, by their places in the list.
+//
+// `TooLarge` exactly where an amount doesn't fit, `NoMemory` where memory is refused, and no other fault.
+fn net_among(
+    alloc: Global,
+    prices: &Prices,
+    predecessors: &Predecessors,
+    kept: &[u32],
+    factor: Factor,
+) -> Result<Net<Scaled>, NetFault>
+    requires ascending { IsAscending kept.now }
+    requires below { All (λ b. b < predecessors.now.blocks) kept.now }
+    requires size { length kept.now ≤ predecessors.now.blocks }
+    requires priced { All (λ b. b < priced_count prices.now) kept.now }
+    ensures { MatchResult result
+        (IsNetAmong scaled_block predecessors.now.pairs prices.now kept.now factor)
+        (WorthsFaultStands scaled_block (length kept.now)
+        (map (worth_at prices.now factor) kept.now)) }
+{
+    let Ok(small) = rests_among(alloc, predecessors, kept) else {
+        return Err(NetFault::NoMemory);
+    };
+    let Ok(worths) = worths_among(alloc, prices, kept, factor) else {
+        return Err(NetFault::NoMemory);
+    };
+    Net::<Scaled>::of_worths(alloc, small, worths.as_slice())
+}
+
 // The best pit of a net at a factor, where pseudoflow finds it and a check accepts its flow.
 fn quick_best(
     alloc: Global,
@@ -79,14 +107,11 @@ fn listed_pit(
     ensures { IfOk result
         (λ o. IfSome o (IsBestAmong predecessors.now.pairs prices.now kept.now factor)) }
 {
-    let small = rests_among(alloc, predecessors, kept)?;
-    let worths = worths_among(alloc, prices, kept, factor)?;
-    let net = match Net::<Scaled>::of_worths(alloc, small, worths.as_slice()) {
+    let net = match net_among(alloc, prices, predecessors, kept, factor) {
         Ok(net) => net,
         Err(NetFault::NoMemory) => return Err(AllocError),
         Err(_) => return Ok(None),
     };
-    drop(worths);
     let Some(best) = quick_best(alloc, &net, factor, turns)? else {
         return Ok(None);
     };
