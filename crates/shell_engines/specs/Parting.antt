@@ -1,5 +1,5 @@
 -- Parts of a mine between two pits, within which the best pits of some factors are looked for.
-use Rattle.std.specs.Prelude.{take, ◌≡◌, ℕ, ℤ, ◌<◌, ◌≤◌, ◌⊎◌, Bool, List, length, slice_index, All, IfSome, FitsSigned}
+use Rattle.std.specs.Prelude.{take, ◌≡◌, ℕ, ℤ, ◌<◌, ◌≤◌, ◌⊎◌, Bool, List, length, slice_index, All, Contains, IsTrue, IfSome, FitsSigned}
 use Rattle.std.specs.Int.{w128}
 use Rattle.fixed_worth.specs.declared.limits.TheConstants.{MOST_BLOCKS}
 use Rattle.ordered_group.specs.Prelude.{Amount, worth_in}

@@ -15,6 +15,11 @@ pit_among-requires-clause-size c =
 pub pit_among-requires-clause-priced : goal.pit_among-requires-clause-priced
 pit_among-requires-clause-priced c = subst (All (λ b. b < priced_count c.args.mine.now.prices)) (sym c.as_slice-kept.ensures.value) c.requires.part.are_kept.below
 
+pub by_pit-requires-clause-few : goal.by_pit-requires-clause-few
+by_pit-requires-clause-few c =
+    let part = c.requires.part in
+    omega (arith, ascending_short c.args.part.now.kept.items (priced_count c.args.mine.now.prices) part.are_kept.ascending part.are_kept.below, c.requires.priced.few)
+
 pub returns-clause-halved : goal.returns-clause-halved
 returns-clause-halved c =
     let pairs = c.args.mine.now.predecessors.pairs in
