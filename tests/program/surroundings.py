@@ -185,9 +185,10 @@ def run_within(kilobytes, program, words, folder):
 
 
 def more_pairs_than_a_list_has(program):
-    """Settings whose slopes give more than 2^27 pairs are solved and checked with half of the memory that a list of 2^27 takes, for
-    none is made. Each block of the lower of two benches rests on a square of the upper one, and a single block of ore pays for its
-    square. A certificate that lacks a block of it is refused.
+    """Settings whose slopes give more than 2^27 pairs are solved, checked, drawn as shells, reported and asked for the worth of a
+    design with half of the memory that a list of 2^27 takes, for none is made. Each block of the lower of two benches rests on a
+    square of the upper one, and a single block of ore pays for its square. A certificate that lacks a block of it is refused, and a
+    design that lacks it is open.
     """
     wide, ore, kilobytes = 256, 128 * 257, 1 << 18
     offsets = [[x, y, 1] for x in range(-32, 32) for y in range(-32, 32)]
@@ -196,7 +197,7 @@ def more_pairs_than_a_list_has(program):
         "b": "".join(
             "%d %d %d %d %d 1\n" % (b, *place, 5_000 * (b == ore)) for b, place in enumerate(places)
         ),
-        "s": "revenue = 0\ncost = 1\nslopes = [%r]\n" % offsets,
+        "s": "revenue = 0\ncost = 1\ntonnes = 1\nfactors = [500, 1000]\nslopes = [%r]\n" % offsets,
     }
     words = ["--blocks", "b", "--settings", "s"]
     with room_with(files) as room:
@@ -208,11 +209,40 @@ def more_pairs_than_a_list_has(program):
         checked, refused = (
             run_within(kilobytes, program, ["check", *words, file], room) for file in ("c", "less")
         )
+        drawn, reported = (
+            run_within(kilobytes, program, [word, *words], room) for word in ("shells", "report")
+        )
+        valued, beside, lacking = (
+            run_within(kilobytes, program, ["value", *words, *said], room)
+            for said in (
+                ["--factor", "1000", "c"],
+                ["--best", "c", "less"],
+                ["--factor", "1000", "less"],
+            )
+        )
     yield None if solved[0] == 0 and solved[2] == b"" else "more pairs: %r" % (solved[::2],)
     yield None if checked == (0, b"ACCEPTED 4097 903\n", b"") else "more pairs: %r" % (checked,)
     yield None if refused[0] == 1 and refused[1].startswith(
         b"REFUSED NotClosed"
     ) else "more pairs, a block too few: %r" % (refused,)
+    design = b"DESIGN 4097 903\nCLOSED\n"
+    open_design = b"DESIGN 4096 904\nOPEN 1\nNEEDS %d %d\n" % (ore, int(lines[last].split()[1]))
+    for what, answer, wanted in (
+        ("shells", drawn, (0, b"SHELL 500 0 0\nSHELL 1000 4097 903\n", b"")),
+        (
+            "report",
+            reported,
+            (
+                0,
+                b"z,shell,blocks,tonnes,worth\n0,1000,1,1,4999\n1,1000,4096,4096,-4096\n",
+                b"",
+            ),
+        ),
+        ("value", valued, (0, design, b"")),
+        ("value beside", beside, (1, open_design + b"BEST 4097 903 GAP -1\n", b"")),
+        ("value of a block too few", lacking, (1, open_design, b"")),
+    ):
+        yield None if answer == wanted else "more pairs, %s: %r" % (what, answer)
 
 
 def first_lines_of_progress(program, words, folder):

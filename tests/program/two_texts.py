@@ -5,7 +5,7 @@ The mines are those of regions.py: boxes with holes, with places below nothing, 
 A certificate is the same by either, is read by plain_check.py, and is accepted over the other too. So is that of a search over
 places (`--method pseudoflow`), which has the same pit and another flow. One with a thing changed gets the same line over either,
 that of plain_check.py. The lines of shells and of a report are added up from the pits of
-certificates at the same factors.
+certificates at the same factors, and those of a design from the pairs.
 
 So are mines of three texts, in which values stand beside the settings and the blocks, with what it answers over the same values
 and the precedence file alone; half of these settings name prices, which aren't looked at. A design and the trace of a run get
@@ -207,6 +207,31 @@ def told_apart(program, folder, mine, worths):
     return faults
 
 
+def misvalued(program, folder, mine, factor, worths):
+    """What is wrong with what a design of some of the blocks comes to, by either."""
+    chance = random.Random(mine.files["b"])
+    design = {b for b in range(len(worths)) if chance.random() < 0.6}
+    (folder / "e").write_text("".join("%d\n" % b for b in design))
+    rests = plain_check.predecessors(mine.files["p"].encode())
+    lacking = sorted((b, p) for b in design for p in rests.get(b, ()) if p not in design)
+    needs = ["OPEN %d" % len(lacking), *("NEEDS %d %d" % pair for pair in lacking[:20])]
+    answers = [
+        run(program, ["value", *words, "--factor", str(factor), "e"], folder)
+        for words in PRICED.values()
+    ]
+    status, output, errors = answers[0]
+    first, *others = output.decode().splitlines() or [""]
+    worth = Fraction(sum(worths[b] for b in design), 10**9)
+    is_so = (
+        answers[0] == answers[1]
+        and (status, errors) == (bool(lacking), b"")
+        and first.split()[:2] == ["DESIGN", str(len(design))]
+        and Fraction(first.split()[2]) == worth
+        and others == (needs if lacking else ["CLOSED"])
+    )
+    return [] if is_so else ["valued as %r" % (answers,)]
+
+
 def solved(program, folder, mine):
     """The pits at the factors, the worths at each, and what is wrong with their certificates and with that of values."""
     pits, worths, faults = [], [], []
@@ -231,6 +256,7 @@ def solved(program, folder, mine):
             worths.append(worth)
         if factor != mine.factors[0]:
             faults += misjudged(program, folder, mine, factor, worth, by["slopes"][1])
+    faults += misvalued(program, folder, mine, mine.factors[-1], worths[-1])
     return pits, worths, faults
 
 

@@ -18,7 +18,7 @@ use check_pit::{CertStream, StreamBytes};
 use engines::certificate_judge::{judge_priced, price_mine};
 use engines::{EngineFault, Judgement};
 use fixed_worth::CountedRead;
-use mine_inputs::MineToCheck;
+use mine_inputs::HeldMine;
 use std::alloc::Global;
 use std::thread::Threads;
 
@@ -36,7 +36,7 @@ pub(crate) struct Beside {
 pub(crate) struct BesideCase<'a, R> {
     pub(crate) rt: &'a R,
     pub(crate) alloc: Global,
-    pub(crate) mine: MineToCheck,
+    pub(crate) mine: HeldMine,
     pub(crate) marks: Vec<bool>,
 }
 

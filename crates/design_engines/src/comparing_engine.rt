@@ -14,7 +14,7 @@ use crate::value_fault::ValueFault;
 use core::mem::replace_with;
 use engines::{MineInputs, Verdict};
 use fixed_worth::{CountedRead, CountedWrite};
-use mine_inputs::mine_to_check;
+use mine_inputs::held_mine;
 use std::alloc::Global;
 use std::thread::Threads;
 
@@ -69,7 +69,7 @@ pub fn compare_engine<
         × (C.failed certificate.new ≡ C.failed certificate.old)
         × (W.failed out.new ≡ W.failed out.old) }
 {
-    let mine = mine_to_check(alloc, inputs)?;
+    let mine = held_mine(alloc, inputs)?;
     let marks = marks_from(alloc, design, mine.predecessors.len())?;
     let case = BesideCase {
         rt,

@@ -18,7 +18,7 @@ use closure_net::NetFault;
 use design_value::{count_marked, open_pairs_of, worth_of_marked};
 use engines::{EngineFault, Verdict};
 use fixed_worth::CountedWrite;
-use prec_file::Predecessors;
+use held_pairs::HeldPairs;
 use std::alloc::Global;
 
 /// Judges a design over a mine that was read, and writes what it comes to.
@@ -29,7 +29,7 @@ use std::alloc::Global;
 pub(crate) fn value_mine<W: CountedWrite>(
     alloc: Global,
     nanos: &[i128],
-    predecessors: &Predecessors,
+    predecessors: &HeldPairs,
     marks: &[bool],
     out: &mut W,
 ) -> Result<Verdict, ValueFault>
@@ -56,7 +56,7 @@ pub(crate) fn value_mine<W: CountedWrite>(
 pub(crate) fn value_of(
     alloc: Global,
     nanos: &[i128],
-    predecessors: &Predecessors,
+    predecessors: &HeldPairs,
     marks: &[bool],
 ) -> Result<Valued, ValueFault>
     requires marks { length marks.now ≡ predecessors.now.blocks }

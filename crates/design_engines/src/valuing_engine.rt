@@ -11,7 +11,7 @@ use crate::mine_value::value_mine;
 use crate::value_fault::ValueFault;
 use engines::{MineInputs, Verdict};
 use fixed_worth::{CountedRead, CountedWrite};
-use mine_inputs::mine_to_check;
+use mine_inputs::held_mine;
 use shells::Factor;
 use std::alloc::Global;
 use std::thread::Threads;
@@ -27,7 +27,7 @@ use std::thread::Threads;
 /// known.
 ///
 /// # Errors
-/// Those of `mine_inputs::mine_to_check`, then those of the design: `Design` with what is wrong with its
+/// Those of `mine_inputs::held_mine`, then those of the design: `Design` with what is wrong with its
 /// text, or `TooLarge`. `Memory` where memory is refused, `Device` where a read or a write fails: the writer has then
 /// received a prefix of the answer, and at every other fault nothing.
 ///
@@ -57,7 +57,7 @@ pub fn value_engine<R: Threads + Sync, D: CountedRead, E: CountedRead, W: Counte
         → NoneFailed inputs.old inputs.new D.failed
         × (E.failed design.new ≡ E.failed design.old) × (W.failed out.new ≡ W.failed out.old) }
 {
-    let mine = mine_to_check(alloc, inputs)?;
+    let mine = held_mine(alloc, inputs)?;
     let marks = marks_from(alloc, design, mine.predecessors.len())?;
     let nanos = mine.worths.nanos_at(rt, alloc, factor)?;
     let predecessors = mine.predecessors;

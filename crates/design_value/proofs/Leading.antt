@@ -1,8 +1,6 @@
 -- The pairs that lead out of a set, pair by pair and block by block.
-use Rattle.fixed_worth.proofs.Common.{◌≡◌, ℕ, suc, ◌+◌, ◌<◌, ◌≤◌, Bool, true, false, cond, List, [], ◌∷◌, ◌++◌, length, take, get_or, refl, sym, ap, ◌∙◌, subst, arith, add-one, length-append, take_all, take_more, take-append-le, length-take-le, filter-append, common_steps}
-use Rattle.prec_file.specs.Rests.{IsKnown, IsRests, RestsView, from_at, first_of, above_of}
-use Rattle.prec_file.proofs.Finding.{above_at, above_length}
-use Rattle.prec_file.proofs.Slots.{ending_next, ending_none, ending_all}
+use Rattle.fixed_worth.proofs.Common.{◌≡◌, ℕ, ◌+◌, ◌<◌, ◌≤◌, Bool, true, false, cond, Contains, List, [], ◌∷◌, ◌++◌, length, take, refl, sym, ap, ◌∙◌, arith, length-append, take_all, take-append-le, filter-append, append-nil, common_steps}
+use Rattle.prec_file.proofs.OneListing.{tail_holds}
 use Rattle.prec_file.proofs.Sorting.{length_filter_most}
 use Rattle.design_value.specs.OpenPairs.{leads_out, open_pairs, most_told, AreOpen}
 
@@ -48,31 +46,22 @@ opens_untold design ps pair count first e l h =
 
 -- ---- the pairs of a block
 
--- the pair at this place of block b's
-pub next_pair : (v : RestsView) → IsRests v → (b i : ℕ) → i < length (above_of v.pairs b)
-    → (first_of v.pairs b + i < length v.pairs) × (take (first_of v.pairs b + (i + 1)) v.pairs ≡ take (first_of v.pairs b + i) v.pairs ++ (b, get_or (above_of v.pairs b) i 0) ∷ []) × (get_or (above_of v.pairs b) i 0 < v.blocks)
-next_pair v r b i l =
-    let at = above_at v.pairs r.rising b i l in
-    let k = first_of v.pairs b + i in
-    let place : first_of v.pairs b + (i + 1) ≡ k + 1 = omega arith in
-    let known = r.known k (0, 0) at.0 in
-    let P : ℕ × ℕ → Type 0 = λ p. IsKnown v.blocks p in (
-      at.0,
-      ap (λ (m : ℕ). take m v.pairs) place ∙ take_more v.pairs k (0, 0) at.0 ∙ ap (λ (p : ℕ × ℕ). take k v.pairs ++ p ∷ []) at.1,
-      (subst P at.1 known).1,
-    )
+pub not_from : (design : ℕ → Bool) (b p : ℕ) → design b ≡ false → leads_out design (b, p) ≡ false
+not_from design b p e = rw e refl
 
--- no more of the pairs lead out than are taken in
-pub few_lead : (design : ℕ → Bool) (ps : List (ℕ × ℕ)) (k count : ℕ) (first : List (ℕ × ℕ)) → k ≤ length ps → AreOpen design (take k ps) count first → count ≤ k
-few_lead design ps k count first l h = omega (arith, h.all, length_filter_most (leads_out design) (take k ps), length-take-le k ps l)
+pub not_to : (design : ℕ → Bool) (b p : ℕ) → design p ≡ true → leads_out design (b, p) ≡ false
+not_to design b p e = grind (arith, common_steps)
 
-pub block_passed : (ps : List (ℕ × ℕ)) (b : ℕ) → first_of ps b + length (above_of ps b) ≡ first_of ps (b + 1)
-block_passed ps b =
-    let next : first_of ps (b + 1) ≡ first_of ps (suc b) = ap (first_of ps) (add-one b) in
-    omega (arith, next, ending_next (from_at ps) b (length ps), above_length ps b)
+none_open : (design : ℕ → Bool) (row : List (ℕ × ℕ)) → ((q : ℕ × ℕ) → Contains row q → leads_out design q ≡ false) → open_pairs design row ≡ []
+none_open design [] h = refl
+none_open design (q ∷ row) h = rw (h q (0, omega arith, refl)) (none_open design row (λ x c. h x (tail_holds q row x c)))
 
-pub none_passed : (ps : List (ℕ × ℕ)) → first_of ps 0 ≡ 0
-none_passed ps = ending_none (from_at ps) (length ps)
+-- pairs of which none leads out
+pub stays_row : (design : ℕ → Bool) (ps row : List (ℕ × ℕ)) (count : ℕ) (first : List (ℕ × ℕ)) → ((q : ℕ × ℕ) → Contains row q → leads_out design q ≡ false) → AreOpen design ps count first → AreOpen design (ps ++ row) count first
+stays_row design ps row count first none h =
+    let e : open_pairs design (ps ++ row) ≡ open_pairs design ps = filter-append (leads_out design) ps row ∙ ap (λ (xs : List (ℕ × ℕ)). open_pairs design ps ++ xs) (none_open design row none) ∙ append-nil (open_pairs design ps) in
+    record { all = h.all ∙ ap length (sym e); first = h.first ∙ ap (take most_told) (sym e) }
 
-pub all_passed : (v : RestsView) → IsRests v → take (first_of v.pairs v.blocks) v.pairs ≡ v.pairs
-all_passed v r = grind (arith, common_steps, ending_all, take_all)
+-- no more of the pairs lead out than there are
+pub few_lead : (design : ℕ → Bool) (ps : List (ℕ × ℕ)) (count : ℕ) (first : List (ℕ × ℕ)) → AreOpen design ps count first → count ≤ length ps
+few_lead design ps count first h = omega (arith, h.all, length_filter_most (leads_out design) ps)

@@ -25,9 +25,8 @@ use check_pit::{
 use closure_net::laws;
 use fixed_worth::CountedRead;
 use held_pairs::HeldPairs;
-use mine_inputs::{CertificateProblem, EngineFault, HeldMine, MineToCheck, Worths};
+use mine_inputs::{CertificateProblem, EngineFault, HeldMine, Worths};
 use ordered_group::{Group, OrderedGroup, Scaled, Worth, WorthSize};
-use prec_file::Predecessors;
 use std::alloc::Global;
 use std::thread::Threads;
 
@@ -63,8 +62,8 @@ pub(crate) fn judge<R: Threads + Sync, C: CountedRead>(
         return (device, Err(EngineFault::Memory));
     };
     let mut stream = CertStream::over(held, device);
-    let judgement = match price_held(rt, alloc, mine, &mut stream) {
-        Ok(priced) => judge_held(alloc, priced, &mut stream),
+    let judgement = match price_mine(rt, alloc, mine, &mut stream) {
+        Ok(priced) => judge_priced(alloc, priced, &mut stream),
         Err(fault) => Err(fault),
     };
     (stream.into_device(), judgement)
@@ -114,16 +113,8 @@ pub struct PricedMine {
     pub group: Group,
     /// What each block is worth.
     pub nanos: Vec<i128>,
-    /// The predecessors of each block.
-    pub predecessors: Predecessors,
-}
-
-// The same, where the pairs are held by a list or by places.
-#[derive(Drop)]
-struct PricedHeld {
-    group: Group,
-    nanos: Vec<i128>,
-    predecessors: HeldPairs,
+    /// Who rests on whom.
+    pub predecessors: HeldPairs,
 }
 
 // Reads the header of a certificate for a mine of so many blocks, and gives what they are worth by it. The values or
@@ -173,7 +164,7 @@ fn price_blocks<R: Threads + Sync, C: CountedRead>(
 pub fn price_mine<R: Threads + Sync, C: CountedRead>(
     rt: &R,
     alloc: Global,
-    mine: MineToCheck,
+    mine: HeldMine,
     stream: &mut CertStream<C>,
 ) -> Result<PricedMine, EngineFault>
     requires count { C.failed stream.old.lines.from < 2 ^ 64 - 1 }
@@ -194,50 +185,12 @@ pub fn price_mine<R: Threads + Sync, C: CountedRead>(
     ensures kept { ¬ IsErrOf result EngineFault.Device
         → C.failed stream.new.lines.from ≡ C.failed stream.old.lines.from }
 {
-    let MineToCheck {
-        worths,
-        predecessors,
-    } = mine;
-    match price_blocks(rt, alloc, worths, predecessors.len(), stream) {
-        Ok(priced) => Ok(PricedMine {
-            group: priced.group,
-            nanos: priced.nanos,
-            predecessors,
-        }),
-        Err(fault) => Err(fault),
-    }
-}
-
-// The same of a mine whose pairs are held by a list or by places.
-fn price_held<R: Threads + Sync, C: CountedRead>(
-    rt: &R,
-    alloc: Global,
-    mine: HeldMine,
-    stream: &mut CertStream<C>,
-) -> Result<PricedHeld, EngineFault>
-    requires count { C.failed stream.old.lines.from < 2 ^ 64 - 1 }
-    requires fresh { IsFresh stream.old }
-    ensures priced { IfSome (C.remaining stream.old.lines.from) (λ c. (texts : MineTexts)
-        → IsMineRead texts (factor_in c) mine.worths mine.predecessors
-        → MatchResult result
-        (λ m. AreRead texts m.nanos.items m.predecessors
-        × IsHeader texts c m.predecessors.blocks m.group
-        × StandsBehind C.remaining c stream.new.lines)
-        (Fails texts c)) }
-    ensures header { IfOk result
-        (λ m. IsReadFor m.predecessors.blocks m.group stream.new.header stream.new.fault) }
-    ensures open { IfOk result (λ _. IsUndecided stream.new) }
-    ensures device { IsErrOf result EngineFault.Device
-        → C.failed stream.new.lines.from ≡ C.failed stream.old.lines.from + 1 }
-    ensures kept { ¬ IsErrOf result EngineFault.Device
-        → C.failed stream.new.lines.from ≡ C.failed stream.old.lines.from }
-{
     let HeldMine {
         worths,
         predecessors,
     } = mine;
     match price_blocks(rt, alloc, worths, predecessors.len(), stream) {
-        Ok(priced) => Ok(PricedHeld {
+        Ok(priced) => Ok(PricedMine {
             group: priced.group,
             nanos: priced.nanos,
             predecessors,
@@ -296,39 +249,6 @@ pub fn judge_priced<C: CountedRead>(
     ensures kept { ¬ IsErrOf result EngineFault.Device
         → C.failed stream.new.lines.from ≡ C.failed stream.old.lines.from }
 {
-    let PricedMine {
-        group,
-        nanos,
-        predecessors,
-    } = mine;
-    let held = HeldPairs::of_list(predecessors);
-    let priced = PricedHeld {
-        group,
-        nanos,
-        predecessors: held,
-    };
-    judge_held(alloc, priced, stream)
-}
-
-// The same of a mine whose pairs are held by a list or by places.
-fn judge_held<C: CountedRead>(
-    alloc: Global,
-    mine: PricedHeld,
-    stream: &mut CertStream<C>,
-) -> Result<Judgement, EngineFault>
-    requires count { C.failed stream.old.lines.from < 2 ^ 64 - 1 }
-    requires open { IsUndecided stream.old }
-    requires header { IsReadFor
-        mine.predecessors.blocks mine.group stream.old.header stream.old.fault }
-    ensures judged { (texts : MineTexts) (c : List ℕ)
-        → AreRead texts mine.nanos.items mine.predecessors
-        → IsHeader texts c mine.predecessors.blocks mine.group
-        → StandsBehind C.remaining c stream.old.lines → Judges texts c result }
-    ensures device { IsErrOf result EngineFault.Device
-        → C.failed stream.new.lines.from ≡ C.failed stream.old.lines.from + 1 }
-    ensures kept { ¬ IsErrOf result EngineFault.Device
-        → C.failed stream.new.lines.from ≡ C.failed stream.old.lines.from }
-{
     // proof: a greatest set of the net is a pit that is worth most, and of amounts with sizes the best one
     laws::greatest_set_is_richest_pit();
     laws::greatest_set_is_best_pit::<WorthSize>();
@@ -343,7 +263,7 @@ fn judge_held<C: CountedRead>(
 // Judges the stream after its header for this mine, in amounts of the group G.
 fn judge_by<G: OrderedGroup, C: CountedRead>(
     alloc: Global,
-    mine: PricedHeld,
+    mine: PricedMine,
     stream: &mut CertStream<C>,
 ) -> Result<Judgement, EngineFault>
     requires count { C.failed stream.old.lines.from < 2 ^ 64 - 1 }
@@ -359,7 +279,7 @@ fn judge_by<G: OrderedGroup, C: CountedRead>(
     ensures kept { ¬ IsErrOf result EngineFault.Device
         → C.failed stream.new.lines.from ≡ C.failed stream.old.lines.from }
 {
-    let PricedHeld {
+    let PricedMine {
         nanos,
         predecessors,
         ..

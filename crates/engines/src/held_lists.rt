@@ -79,7 +79,7 @@ fn collected<P: Precedence>(alloc: Global, held: &P) -> Result<Vec<(u32, u32)>, 
 ///
 /// # Errors
 /// Where memory is refused.
-pub(crate) fn rests_of(alloc: Global, pairs: &HeldPairs) -> Result<Rests, AllocError>
+pub fn rests_of(alloc: Global, pairs: &HeldPairs) -> Result<Rests, AllocError>
     ensures { IfOk result (λ r. r ≡ pairs.now) }
 {
     // proof: what is known of all pairs, and of every precedence

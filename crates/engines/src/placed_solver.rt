@@ -47,8 +47,8 @@ struct Draft<G: OrderedGroup> {
     certificate: Certificate<G>,
 }
 
-// The blocks of a pit, of which each of n blocks says whether it is in it.
-fn pit_by(alloc: Global, flags: &[bool], n: u32) -> Option<Pit>
+/// The blocks of a pit, of which each of n blocks says whether it is in it: none where memory is refused.
+pub fn pit_by(alloc: Global, flags: &[bool], n: u32) -> Option<Pit>
     ensures { IfSome result (λ pit. All (λ b. b < n) pit) }
 {
     let mut blocks: Vec<u32> = Vec::new(alloc);
@@ -60,8 +60,8 @@ fn pit_by(alloc: Global, flags: &[bool], n: u32) -> Option<Pit>
     Pit::new(blocks)
 }
 
-// The pairs over which something flows in a forest, of n blocks.
-fn few_rests(alloc: Global, branches: &[Branch], n: u32) -> Option<Rests>
+/// The pairs over which something flows in a forest, of n blocks: none where memory is refused, or there are too many.
+pub fn few_rests(alloc: Global, branches: &[Branch], n: u32) -> Option<Rests>
     requires { n ≤ MOST_BLOCKS }
     ensures { IfSome result (λ r. r.blocks ≡ n) }
 {

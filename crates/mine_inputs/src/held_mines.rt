@@ -1,10 +1,11 @@
-//! Reads the inputs of a mine for a check: who rests on whom is held by a list, or by the places of the blocks where
-//! settings list slopes, so that no list is made of them.
+//! Reads the inputs of a mine, or its precedence alone: who rests on whom is held by a list, or by the places of the
+//! blocks where settings list slopes, so that no list is made of them.
 
-ghost use Rattle.std.specs.Prelude.{◌≡◌, ◌+◌, ◌-◌, ◌^◌, ◌<◌, ℕ, List, length, IfSome, MatchResult, IsErrOf};
+ghost use Rattle.std.specs.Prelude.{◌≡◌, ◌+◌, ◌-◌, ◌^◌, ◌<◌, ◌≤◌, ◌↔◌, ℕ, List, length, IfOk, IfSome, MatchResult, IsErrOf};
+ghost use Rattle.fixed_worth.specs.declared.limits.TheConstants.{MOST_BLOCKS};
 ghost use Rattle.blocks_file.specs.Denotes.{narrowed};
 ghost use Rattle.mine_inputs.specs.FaultStands.{MineFails};
-ghost use Rattle.mine_inputs.specs.Inputs.{AreSlopedTexts, AreValuedTexts, PairsSaidFail};
+ghost use Rattle.mine_inputs.specs.Inputs.{AreSlopedTexts, AreValuedTexts, PairsSaidFail, ReadsPrec, PrecReadFails};
 ghost use Rattle.mine_inputs.specs.MineInputs.{ForTexts, CanCount, NoneFailed, OneFailed};
 ghost use Rattle.mine_inputs.specs.Mines.{sloped_texts, valued_texts};
 ghost use Rattle.mine_inputs.specs.PricedTexts.{columns_beside};
@@ -14,6 +15,7 @@ ghost use Rattle.mine_inputs.specs.SlopedTexts.{SlopesRead, column_after, column
 use crate::checked_mine::{HeldMine, MineToCheck};
 use crate::columns_of_prices::place_beside;
 use crate::engine_fault::EngineFault;
+use crate::inputs::predecessors_from;
 use crate::mines::{MineInputs, listed_mine};
 use crate::priced_inputs::prices_of;
 use crate::sloped_inputs::up_of;
@@ -46,9 +48,13 @@ fn held_said(
     }
 }
 
-// Who rests on whom by the slopes that settings list, among blocks of which the column after so many others says in
-// which region each is, where the settings name it.
-fn held_by_slopes(
+/// Who rests on whom by the slopes that settings list, among blocks of which the column after so many others says in
+/// which region each is, where the settings name it. No list of pairs is made, if a grid holds the places.
+///
+/// # Errors
+/// `Blocks` where two blocks have one place, `Slope` where a region isn't one of the settings, or where a list has to be
+/// made and would have too many pairs. `Memory` where memory is refused.
+pub fn held_by_slopes(
     alloc: Global,
     model: &BlockModel,
     others: u32,
@@ -167,6 +173,31 @@ fn held_valued<D: CountedRead>(
 {
     let read = valued_texts_from(alloc, settings, blocks, upit)?;
     held_of_values(alloc, read)
+}
+
+/// Who rests on whom among n blocks, by a text that lists it.
+///
+/// # Errors
+/// Those of [`crate::predecessors_from`].
+pub fn held_from<R: CountedRead>(
+    alloc: Global,
+    from: &mut R,
+    n: u32,
+) -> Result<HeldPairs, EngineFault>
+    requires blocks { n ≤ MOST_BLOCKS }
+    requires room { R.failed from.old < 2 ^ 64 - 1 }
+    ensures read { IfSome (R.remaining from.old) (λ text. MatchResult result
+        (ReadsPrec n text)
+        (PrecReadFails n text)) }
+    ensures size { IfOk result (λ rests. rests.blocks ≡ n) }
+    ensures device { IsErrOf result EngineFault.Device
+        ↔ (R.failed from.new ≡ R.failed from.old + 1) }
+    ensures kept { ¬ IsErrOf result EngineFault.Device → R.failed from.new ≡ R.failed from.old }
+{
+    match predecessors_from(alloc, from, n) {
+        Ok(list) => Ok(HeldPairs::of_list(list)),
+        Err(fault) => Err(fault),
+    }
 }
 
 // The mine that a list of pairs was read for, as one that holds them.

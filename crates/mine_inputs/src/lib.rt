@@ -29,7 +29,7 @@ mod worths;
 pub use checked_mine::{HeldMine, MineToCheck};
 pub use columns_of_prices::{PriceColumns, missing, place_beside, price_columns};
 pub use engine_fault::{CertificateProblem, EngineFault, Problem, SlopeProblem};
-pub use held_mines::held_mine;
+pub use held_mines::{held_by_slopes, held_from, held_mine};
 pub use inputs::{blocks_from, predecessors_from, unread};
 pub use mines::{MineInputs, MineToSolve, WorthInputs, mine_to_check, mine_to_solve};
 pub use priced_inputs::{

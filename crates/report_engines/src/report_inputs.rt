@@ -16,11 +16,11 @@ ghost use Rattle.report_engines.specs.ReportParts.{columns_by, report_list, IsSa
 use blocks_file::BlockModel;
 use engines::EngineFault;
 use fixed_worth::CountedRead;
+use held_pairs::HeldPairs;
 use mine_inputs::{
-    PriceColumns, place_beside, predecessors_by_slopes, predecessors_from, price_columns,
-    priced_blocks_from, priced_settings_from, prices_of, settings_from,
+    PriceColumns, held_by_slopes, held_from, place_beside, price_columns, priced_blocks_from,
+    priced_settings_from, prices_of, settings_from,
 };
-use prec_file::Predecessors;
 use settings_file::{Key, Settings};
 use shell_engines::series_inputs::{SeriesInputs, SeriesMine, factor_of, factors_of};
 use shells::{Factor, Prices};
@@ -208,7 +208,7 @@ fn rests_from<D: CountedRead>(
     prec: &mut Option<D>,
     read: &PricedModel,
     settings: &Settings,
-) -> Result<Predecessors, EngineFault>
+) -> Result<HeldPairs, EngineFault>
     requires room { failures_in prec.old D.failed < 2 ^ 64 - 1 }
     requires columns { IfSome (column_after (place_beside read.now.priced_by + 1) settings.now.region)
         (λ i. i < length read.now.model.columns) }
@@ -226,12 +226,12 @@ fn rests_from<D: CountedRead>(
     // proof: no revenue of prices is negative
     let n = read.prices.len();
     match prec {
-        Some(prec) => predecessors_from(alloc, prec, n),
+        Some(prec) => held_from(alloc, prec, n),
         None => {
             // proof: few columns are chosen
             let _columns = read.model.columns();
             let others = place_beside(&read.priced_by) + 1;
-            predecessors_by_slopes(alloc, &read.model, others, settings)
+            held_by_slopes(alloc, &read.model, others, settings)
         }
     }
 }

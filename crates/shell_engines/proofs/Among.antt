@@ -2,7 +2,7 @@
 use Rattle.std.specs.Prelude.{Result, Ok, Err, MatchResult}
 use Rattle.fixed_worth.proofs.Common.{◌≡◌, ℕ, zero, suc, ◌+ℤ◌, ℤ, pos, ◌<◌, Bool, true, false, All, List, [], ◌∷◌, ◌++◌, nat_lt, cond, length, map, get_or, refl, sym, subst, ap, ◌∙◌, arith, length-map, get_or-map, ltb-true, All-append}
 use Rattle.ordered_group.specs.Prelude.{Amount, zero_amount, worth_in}
-use Rattle.closure_net.specs.Prelude.{NetView, net_view, holds_of, IsAscending, IsBest, WorthsFaultStands}
+use Rattle.closure_net.specs.Prelude.{NetView, net_view, holds_of, IsAscending, IsBest, IsNetOf, WorthsFaultStands}
 use Rattle.closure_net.specs.declared.net.NetFault.{NetFault}
 use Rattle.shells.specs.Prelude.{PricesView, priced_count, worth_at, mine_at}
 use Rattle.engines.proofs.Counted.{count_in-ascending}
@@ -10,27 +10,24 @@ use Rattle.sub_mines.specs.Prelude.{every_block, number_in, IsPartPairs}
 use Rattle.sub_mines.proofs.Kept.{listed}
 use Rattle.sub_mines.proofs.Renumbering.{worth_listed}
 use Rattle.shell_engines.specs.declared.mine_parts.Part.{Part}
-use Rattle.shell_engines.specs.Prelude.{IsRowOf, IsNetAmong}
+use Rattle.shell_engines.specs.Prelude.{IsRowOf, IsNetAmong, mine_among}
 use Rattle.shell_engines.proofs.Parting.{own_list}
 use Rattle.shell_engines.proofs.Proving.{all_one}
 use Rattle.prec_file.proofs.Pairs.{rests_of_pair, pair_of_rests}
 
-pub net_among_is : (block : ℤ → ℕ → Amount) (pairs less : List (ℕ × ℕ)) (prices : PricesView) (kept : List ℕ) (k : ℕ) (net : NetView) → net ≡ net_view less (map (λ v. block v (length kept)) (map (worth_at prices k) kept)) → IsPartPairs kept pairs less
-    → IsNetAmong block pairs prices kept k net
-net_among_is block pairs less prices kept k net is part =
+-- the net of these pairs and worths is that of the blocks alone
+pub net_of : (block : ℤ → ℕ → Amount) (less : List (ℕ × ℕ)) (prices : PricesView) (kept : List ℕ) (k n : ℕ) (nanos : List ℤ) (net : NetView) → n ≡ length kept → nanos ≡ map (worth_at prices k) kept → net ≡ net_view less (map (λ v. block v n) nanos) → IsNetOf block (mine_among less prices kept k) net
+net_of block less prices kept k n nanos net counted are is =
     let worths = map (worth_at prices k) kept in
-    let n = length kept in
-    let counted : length worths ≡ n = length-map kept (worth_at prices k) in
+    let m = length kept in
+    let made : net ≡ net_view less (map (λ v. block v m) worths) = is ∙ ap (λ (x : ℕ). net_view less (map (λ v. block v x) nanos)) counted ∙ ap (λ (vs : List ℤ). net_view less (map (λ v. block v m) vs)) are in
+    let size : length worths ≡ m = length-map kept (worth_at prices k) in
     record {
-      less = less;
-      part = part;
-      of = record {
-        blocks = ap (λ (x : NetView). length x.worths) is ∙ length-map worths (λ v. block v n) ∙ counted;
-        worths = λ b l.
-            let inside : b < length worths = omega (arith, l, counted) in
-            ap (λ (x : NetView). get_or x.worths b zero_amount) is ∙ get_or-map (λ v. block v n) worths b (pos 0) zero_amount inside ∙ ap (λ v. block v n) (get_or-map (worth_at prices k) kept b 0 (pos 0) l);
-        pairs = λ b p. rw (ap (λ (x : NetView). x.pairs) is) (rests_of_pair less b p, pair_of_rests less b p);
-      };
+      blocks = ap (λ (x : NetView). length x.worths) made ∙ length-map worths (λ v. block v m) ∙ size;
+      worths = λ b l.
+          let inside : b < length worths = omega (arith, l, size) in
+          ap (λ (x : NetView). get_or x.worths b zero_amount) made ∙ get_or-map (λ v. block v m) worths b (pos 0) zero_amount inside ∙ ap (λ v. block v m) (get_or-map (worth_at prices k) kept b 0 (pos 0) l);
+      pairs = λ b p. rw (ap (λ (x : NetView). x.pairs) made) (rests_of_pair less b p, pair_of_rests less b p);
     }
 
 -- what making the net of some blocks gives: it, or why an amount doesn't fit
@@ -38,9 +35,7 @@ pub net_made : (block : ℤ → ℕ → Amount) (pairs less : List (ℕ × ℕ))
     → MatchResult made (λ net. (net ≡ net_view less (map (λ v. block v n) nanos)) × (n ≡ length nanos)) (WorthsFaultStands block n nanos)
     → MatchResult made (IsNetAmong block pairs prices kept k) (WorthsFaultStands block (length kept) (map (worth_at prices k) kept))
 net_made block pairs less prices kept k n nanos (Ok net) counted part are h =
-    net_among_is block pairs less prices kept k net
-    (h.0 ∙ ap (λ (m : ℕ). net_view less (map (λ v. block v m) nanos)) counted ∙ ap (λ (vs : List ℤ). net_view less (map (λ v. block v (length kept)) vs)) are)
-    part
+    record { less = less; part = part; of = net_of block less prices kept k n nanos net counted are h.0 }
 net_made block pairs less prices kept k n nanos (Err e) counted part are h =
     subst (λ (m : ℕ). WorthsFaultStands block m (map (worth_at prices k) kept) e) counted (subst (λ (vs : List ℤ). WorthsFaultStands block n vs e) are h)
 

@@ -12,3 +12,4 @@ pub mod Parting
 pub mod Merging
 pub mod Among
 pub mod Summing
+pub mod FewPairs

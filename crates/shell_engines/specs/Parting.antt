@@ -1,11 +1,12 @@
 -- Parts of a mine between two pits, within which the best pits of some factors are looked for.
-use Rattle.std.specs.Prelude.{take, ◌≡◌, ℕ, ℤ, ◌<◌, ◌≤◌, ◌⊎◌, Bool, List, length, slice_index, All, IfSome, FitsSigned}
+use Rattle.std.specs.Prelude.{take, ◌≡◌, ℕ, ℤ, ◌<◌, ◌≤◌, ◌⊎◌, Bool, List, length, slice_index, All, Contains, IsTrue, IfSome, FitsSigned}
 use Rattle.std.specs.Int.{w128}
 use Rattle.fixed_worth.specs.declared.limits.TheConstants.{MOST_BLOCKS}
 use Rattle.ordered_group.specs.Prelude.{Amount, worth_in}
 use Rattle.prec_file.specs.Rests.{IsRests, has_pair}
 use Rattle.closure_net.specs.Prelude.{NetView, holds_of, IsAscending, Mine, IsBest, IsNetOf}
 use Rattle.shells.specs.Prelude.{PricesView, priced_count, worth_at, NoRevenueNegative, mine_at}
+use Rattle.places.specs.Ways.{PrecedenceView}
 use Rattle.sub_mines.specs.Prelude.{union_of, difference_of, every_block, IsFloor, IsCeiling, number_in, IsKept, IsPartPairs}
 use Rattle.shell_engines.specs.declared.mine_parts.Part.{Part}
 use Rattle.shell_engines.specs.declared.mine_parts.Halved.{Halved}
@@ -44,6 +45,12 @@ pub record IsNetAmong (block : ℤ → ℕ → Amount) (pairs : List (ℕ × ℕ
   pub less : List (ℕ × ℕ)
   pub part : IsPartPairs kept pairs less
   pub of : IsNetOf block (mine_among less prices kept k) net
+
+-- The net is that of these blocks alone with some of the pairs among them: by each of its pairs one rests on another.
+pub record IsFewNet (block : ℤ → ℕ → Amount) (v : PrecedenceView) (prices : PricesView) (kept : List ℕ) (k : ℕ) (net : NetView) : Type 0 where
+  pub few : List (ℕ × ℕ)
+  pub held : (b p : ℕ) → Contains few (b, p) → IsTrue (v.rests b p)
+  pub of : IsNetOf block (mine_among few prices kept k) net
 
 -- the places are the best pit of the mine of these blocks alone
 pub record IsBestAmong (pairs : List (ℕ × ℕ)) (prices : PricesView) (kept : List ℕ) (k : ℕ) (places : List ℕ) : Type 0 where

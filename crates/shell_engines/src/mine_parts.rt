@@ -1,28 +1,19 @@
 //! Solves a part of a mine between two nested pits at one factor: gives the best pit there, and the two parts in
 //! which those of lower and of higher factors lie.
 
-ghost use Rattle.std.specs.Prelude.{◌≡◌, ℕ, ◌<◌, ◌≤◌, All, List, [], IfOk, IfSome, IfNone, MatchResult, length, map, slice_index};
+ghost use Rattle.std.specs.Prelude.{◌≡◌, ℕ, ◌<◌, ◌≤◌, List, [], IfOk, IfSome, IfNone, length, slice_index};
 ghost use Rattle.fixed_worth.specs.declared.limits.TheConstants.{MOST_BLOCKS};
-ghost use Rattle.ordered_group.specs.Block.{scaled_block};
 ghost use Rattle.prec_file.specs.Rests.{numbers_passing};
-ghost use Rattle.closure_net.specs.Network.{IsAscending};
-ghost use Rattle.closure_net.specs.Faults.{WorthsFaultStands};
-ghost use Rattle.shells.specs.Prices.{PricesView, priced_count, worth_at};
+ghost use Rattle.shells.specs.Prices.{PricesView};
 ghost use Rattle.sub_mines.specs.Parts.{every_block};
-ghost use Rattle.shell_engines.specs.PitsAtFactors.{IsBestOf};
-ghost use Rattle.shell_engines.specs.Parting.{ArePriced, IsPart, IsNetAmong, IsBestAmong, AreHalved, SumLeaves};
+ghost use Rattle.shell_engines.specs.Parting.{ArePriced, IsPart, IsBestAmong, AreHalved, SumLeaves};
 
-use crate::best_pits::{BestPit, best_of};
+use crate::best_pits::BestPit;
 use crate::lifted_pits::{at_others, at_places, best_with, merged};
+use crate::part_pits::pit_among;
 use crate::series_inputs::SeriesMine;
-use closure_net::{Net, NetFault, Pit};
-use engines::solvers::by_pseudoflow;
-use ordered_group::Scaled;
-use prec_file::Predecessors;
-use pseudoflow::Silent;
-use shells::{Factor, Prices};
+use closure_net::Pit;
 use std::alloc::{AllocError, Global};
-use sub_mines::rests_among;
 
 /// Some of the factors, and where their best pits lie.
 #[derive(Drop)]
@@ -66,51 +57,6 @@ pub fn whole(alloc: Global, blocks: u32, factors: usize) -> Result<Part, AllocEr
         low: Vec::new(alloc),
         kept,
     })
-}
-
-// What these blocks are worth at a factor, in their order.
-fn worths_among(
-    alloc: Global,
-    prices: &Prices,
-    kept: &[u32],
-    factor: Factor,
-) -> Result<Vec<i128>, AllocError>
-    requires { All (λ b. b < priced_count prices.now) kept.now }
-    ensures { IfOk result (λ v. v.items ≡ map (worth_at prices.now factor) kept.now) }
-{
-    let mut worths = Vec::with_capacity(alloc, kept.len())?;
-    for b in kept {
-        worths.push(prices.worth(*b, factor))?;
-    }
-    Ok(worths)
-}
-
-// The net of these blocks alone, by their places in the list.
-//
-// `TooLarge` exactly where an amount doesn't fit, `NoMemory` where memory is refused, and no other fault.
-fn net_among(
-    alloc: Global,
-    prices: &Prices,
-    predecessors: &Predecessors,
-    kept: &[u32],
-    factor: Factor,
-) -> Result<Net<Scaled>, NetFault>
-    requires ascending { IsAscending kept.now }
-    requires below { All (λ b. b < predecessors.now.blocks) kept.now }
-    requires size { length kept.now ≤ predecessors.now.blocks }
-    requires priced { All (λ b. b < priced_count prices.now) kept.now }
-    ensures { MatchResult result
-        (IsNetAmong scaled_block predecessors.now.pairs prices.now kept.now factor)
-        (WorthsFaultStands scaled_block (length kept.now)
-        (map (worth_at prices.now factor) kept.now)) }
-{
-    let Ok(small) = rests_among(alloc, predecessors, kept) else {
-        return Err(NetFault::NoMemory);
-    };
-    let Ok(worths) = worths_among(alloc, prices, kept, factor) else {
-        return Err(NetFault::NoMemory);
-    };
-    Net::<Scaled>::of_worths(alloc, small, worths.as_slice())
 }
 
 // The best pit at a factor of the part, and the parts of the others: those of lower factors lie within it, and those of
@@ -159,21 +105,6 @@ fn by_pit(
         lower,
         higher,
     }))
-}
-
-// The best pit of a net at a factor, where pseudoflow finds it and a check accepts its flow.
-fn quick_best(
-    alloc: Global,
-    net: &Net<Scaled>,
-    factor: Factor,
-    turns: u64,
-) -> Result<Option<BestPit>, AllocError>
-    ensures { IfOk result (λ o. IfSome o (IsBestOf scaled_block net.now factor)) }
-{
-    match by_pseudoflow(alloc, net, turns, &Silent)? {
-        Some(solution) => Ok(Some(best_of(factor, solution))),
-        None => Ok(None),
-    }
 }
 
 impl Part {
@@ -238,8 +169,8 @@ fn without_blocks(
 }
 
 /// Solves the part of a mine at the factor at this place. A part without further blocks is always solved, unless the
-/// worths of its low blocks have no sum within 128 bits; another one where the amounts of its net fit, pseudoflow finds
-/// a flow that a check accepts, and the worths of its pit have a sum.
+/// worths of its low blocks have no sum within 128 bits; another one where the amounts of its net fit, a search finds a
+/// flow that a check accepts, and the worths of its pit have a sum.
 ///
 /// # Errors
 /// Memory was refused.
@@ -267,15 +198,10 @@ pub fn solved_part(
     let factor = mine.factors[place];
     let next = place + 1;
     let kept = part.kept.as_slice();
-    let net = match net_among(alloc, &mine.prices, &mine.predecessors, kept, factor) {
-        Ok(net) => net,
-        Err(NetFault::NoMemory) => return Err(AllocError),
-        Err(_) => return part.unsolved(alloc, place, next),
-    };
-    let Some(small) = quick_best(alloc, &net, factor, turns)? else {
+    let Some(small) = pit_among(alloc, mine, kept, factor, turns)? else {
         return part.unsolved(alloc, place, next);
     };
-    let Some(found) = by_pit(alloc, mine, part, place, &small.pit)? else {
+    let Some(found) = by_pit(alloc, mine, part, place, &small)? else {
         return part.unsolved(alloc, place, next);
     };
     Ok(found)

@@ -12,11 +12,11 @@ ghost use Rattle.shell_engines.specs.SeriesTexts.{IsSeriesRead, SeriesMineFails,
 
 use engines::EngineFault;
 use fixed_worth::{CountedRead, MOST_FACTOR};
+use held_pairs::HeldPairs;
 use mine_inputs::{
-    missing, place_beside, predecessors_by_slopes, predecessors_from, price_columns,
-    priced_settings_from, prices_from, prices_of, regional_blocks_from, settings_from,
+    held_by_slopes, held_from, missing, place_beside, price_columns, priced_settings_from,
+    prices_from, prices_of, regional_blocks_from, settings_from,
 };
-use prec_file::Predecessors;
 use settings_file::{Key, Settings};
 use shells::{Factor, Prices};
 use std::alloc::{AllocError, Global};
@@ -49,9 +49,8 @@ impl<D> SeriesInputs<D> {
 pub struct SeriesMine {
     /// The prices of the blocks.
     pub prices: Prices,
-    /// The predecessors of each block. The index that a series has beside them is made once the pits are found, which
-    /// takes less memory.
-    pub predecessors: Predecessors,
+    /// Who rests on whom.
+    pub predecessors: HeldPairs,
     /// The factors, rising.
     pub factors: Vec<Factor>,
     /// The factor of the report, at which ways and worths are told.
@@ -137,7 +136,7 @@ fn listed_series<D: CountedRead>(
     let factors = factors_of(alloc, &settings)?;
     let factor = factor_of(&settings, factors.as_slice());
     let prices = prices_from(alloc, blocks, &columns)?;
-    let predecessors = predecessors_from(alloc, prec, prices.len())?;
+    let predecessors = held_from(alloc, prec, prices.len())?;
     Ok(SeriesMine {
         prices,
         predecessors,
@@ -175,7 +174,7 @@ fn sloped_series<D: CountedRead>(
     // proof: no revenue of prices is negative
     let _blocks = prices.len();
     let others = place_beside(&columns);
-    let predecessors = predecessors_by_slopes(alloc, &model, others, &settings)?;
+    let predecessors = held_by_slopes(alloc, &model, others, &settings)?;
     Ok(SeriesMine {
         prices,
         predecessors,

@@ -15,6 +15,7 @@ use crate::series_inputs::SeriesMine;
 use crate::series_progress::SeriesProgress;
 use crate::shell_rows::ShellRow;
 use crate::solver_at::solution_at;
+use engines::held_lists::rests_of;
 use engines::solvers::Unsolved;
 use engines::{Effort, Method};
 use fixed_worth::MOST_FACTORS;
@@ -66,7 +67,7 @@ fn best_at<R: Threads + Wait + Sync, T: Gate + Progress>(
     ensures fault { IfErr result (λ e. (factors : List ℕ) → Contains factors factor
         → NoSeriesStands scaled_block (rests_in series.now) series.now.prices factors effort e) }
 {
-    let rests = series.rests().copy(alloc)?;
+    let rests = rests_of(alloc, series.rests())?;
     let net = net_at(rt, alloc, series.prices(), rests, factor)?;
     if effort.method.ends_with_pseudoflow(net.len()) {
         return Err(NoSeries::Unsolved(factor.get(), Unsolved::GaveUp));
@@ -175,8 +176,7 @@ pub fn settle<R: Threads + Wait + Sync, T: Gate + Progress + SeriesProgress>(
         factors,
         ..
     } = mine;
-    let rests = predecessors.into_rests(alloc)?;
-    let series = match Series::open(alloc, rests, prices) {
+    let series = match Series::open(alloc, predecessors, prices) {
         Ok(series) => series,
         Err(SeriesFault::NoMemory) => return Err(NoSeries::Memory),
         Err(_) => unreachable!("a mine has a price for each block"),

@@ -7,7 +7,7 @@
 //! a block's shell is the lowest factor of a series whose best pit holds it (Lerchs and Grossmann,
 //! 1965, make their phases so).
 //!
-//! Stands on `check_pit`, `closure_net`, `ordered_group`, `prec_file`, `fixed_worth` and the kit's
+//! Stands on `check_pit`, `closure_net`, `held_pairs`, `places`, `ordered_group`, `prec_file`, `fixed_worth` and the kit's
 //! `rayon`. Promises upward:
 //!
 //! - `worth` and `worths_at` are exact, and `way_of` gives the first way that is worth most.
@@ -25,6 +25,7 @@ mod matching;
 mod most_ways;
 mod price_tables;
 mod prices_fault;
+mod same_held;
 mod series_fault;
 mod shell_series;
 mod tables;
@@ -34,6 +35,7 @@ pub use factor::Factor;
 pub use most_ways::MOST_WAYS;
 pub use price_tables::Prices;
 pub use prices_fault::PricesFault;
+pub use same_held::all_held;
 pub use series_fault::SeriesFault;
 pub use shell_series::Series;
 pub use ways::Way;

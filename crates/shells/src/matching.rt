@@ -6,9 +6,10 @@ ghost use Rattle.shells.specs.Series.{HasWorths, IsOver};
 
 use crate::factor::Factor;
 use crate::price_tables::Prices;
-use closure_net::{Net, same_pairs};
+use crate::same_held::are_same;
+use closure_net::Net;
+use held_pairs::HeldPairs;
 use ordered_group::{OrderedGroup, same};
-use prec_file::Rests;
 
 // Whether an amount is that of one block, of so many, which is worth so many billionths. That its two numbers fit is
 // known by asking for them.
@@ -38,12 +39,12 @@ fn has_worths<G: OrderedGroup>(prices: &Prices, factor: Factor, net: &Net<G>) ->
 
 // Whether the net has the pairs, and the worths by the prices. No net is made for it, so that it takes no memory.
 pub(crate) fn is_over<G: OrderedGroup>(
-    rests: &Rests,
+    rests: &HeldPairs,
     prices: &Prices,
     factor: Factor,
     net: &Net<G>,
 ) -> bool
     ensures { IsTrue result ↔ IsOver G.block_parts rests.now.pairs prices.now factor net.now }
 {
-    net.len() == prices.len() && same_pairs(net.rests(), rests) && has_worths(prices, factor, net)
+    net.len() == prices.len() && are_same(net.rests(), rests) && has_worths(prices, factor, net)
 }

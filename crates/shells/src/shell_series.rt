@@ -15,8 +15,8 @@ use crate::series_fault::SeriesFault;
 use check_pit::Accepted;
 use closure_net::{Pit, laws};
 use fixed_worth::MOST_FACTORS;
+use held_pairs::HeldPairs;
 use ordered_group::{OrderedGroup, SizeGroup};
-use prec_file::Rests;
 use std::alloc::Global;
 use std::marker::Model;
 
@@ -24,7 +24,7 @@ use std::marker::Model;
 /// are the best pit, and so each pit lies within the next.
 #[derive(Drop)]
 pub struct Series {
-    rests: Rests,
+    rests: HeldPairs,
     prices: Prices,
     // the thousandths of each push; memory for 64 is kept
     factors: Vec<u32>,
@@ -51,7 +51,7 @@ impl Series {
     ///
     /// # Errors
     /// `WrongModel` where there are more or fewer prices than blocks; then `NoMemory`.
-    pub fn open(alloc: Global, rests: Rests, prices: Prices) -> Result<Series, SeriesFault>
+    pub fn open(alloc: Global, rests: HeldPairs, prices: Prices) -> Result<Series, SeriesFault>
         ensures { MatchResult result
             (λ s. (s ≡ opened_series rests.pairs prices) × (rests.blocks ≡ priced_count prices))
             (λ e. OpenFaultStands rests.blocks prices e) }
@@ -179,7 +179,7 @@ impl Series {
     }
 
     /// Who rests on whom.
-    pub fn rests(&self) -> &Rests
+    pub fn rests(&self) -> &HeldPairs
         ensures { result.now ≡ rests_in self.now }
     {
         &self.rests

@@ -4,3 +4,4 @@ pub mod Renumbering
 pub mod Kept
 pub mod Together
 pub mod Rows
+pub mod GridParts

@@ -6,5 +6,7 @@ pub mod Renumbered
 pub mod Laws
 -- for this crate alone: pairs as they are gathered
 pub mod Among
+-- who precedes whom among some blocks of a grid
+pub mod AmongGrids
 -- the names of all of them
 pub mod Prelude

@@ -9,7 +9,7 @@ use prec_file::{ListedPairs, MOST_PAIRS, Predecessors, Rests};
 use std::alloc::{AllocError, Global};
 
 // For each of n blocks its place among the kept ones and 1 more, or 0.
-fn places_of(alloc: Global, n: u32, kept: &[u32]) -> Result<Vec<u32>, AllocError>
+pub(crate) fn places_of(alloc: Global, n: u32, kept: &[u32]) -> Result<Vec<u32>, AllocError>
     requires ascending { IsAscending kept.now }
     requires below { All (λ b. b < n) kept.now }
     ensures { IfOk result (λ v. ArePlacesAmong n kept.now (length kept.now) v.items) }

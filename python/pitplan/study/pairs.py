@@ -13,7 +13,7 @@ import numpy as np
 
 from ..base.arrays import Indices, Ints
 from ..base.strange import Strange
-from ..slopes.offsets import PAIRS, Offset
+from ..slopes.offsets import Offset
 
 _HARDLY = 0.1  # the share of blocks that is hardly any
 
@@ -53,8 +53,7 @@ class PairCounts:
         )
 
     def strange(self) -> Iterator[Strange]:
-        """What looks wrong: hardly any block rests on another, or only on those straight above it;
-        or there are more pairs than `pit` holds in a list."""
+        """What looks wrong: hardly any block rests on another, or only on those straight above it."""
         wrong = "a block rests on those above it", "size in [model], or the columns of x, y and z"
         if self.with_any < _HARDLY * self.lower:
             yield Strange(
@@ -70,13 +69,6 @@ class PairCounts:
                 " are held but upright ones",
                 *wrong,
                 ("model", "size"),
-            )
-        if self.count > PAIRS:
-            yield Strange(
-                f"there are {self.count:,} pairs of a block and a predecessor",
-                f"where pit lists them it holds {PAIRS:,}, and may refuse this model",
-                "fewer levels in [slopes], steeper angles, or larger blocks",
-                ("slopes",),
             )
 
 

@@ -77,12 +77,9 @@ def test_coordinates_in_metres_are_told(scale, said):
     assert strange.key == ("model", "size")
 
 
-def test_more_pairs_than_a_list_holds_are_told():
-    found = pairs.PairCounts((1 << 27) + 1, 1 << 30, 9, 9, 9, 9)
-    (strange,) = found.strange()
-    assert "134,217,729 pairs" in str(strange)
-    assert strange.key == ("slopes",)
-    assert not list(pairs.PairCounts(1 << 27, 1 << 30, 9, 9, 9, 9).strange())
+def test_more_pairs_than_a_list_holds_are_nothing_strange():
+    """`pit` finds pits, draws shells and values designs without a list of them."""
+    assert not list(pairs.PairCounts((1 << 27) + 1, 1 << 30, 9, 9, 9, 9).strange())
 
 
 def test_build_says_how_many_there_are(tmp_path):

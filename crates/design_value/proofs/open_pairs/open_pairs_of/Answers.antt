@@ -1,17 +1,18 @@
-use Rattle.std.proofs.Common.{rules, ◌≡◌, ℕ, List, [], take, ap, ◌∙◌, subst, refl, arith}
-use Rattle.prec_file.specs.Rests.{first_of}
+use Rattle.fixed_worth.proofs.Common.{◌≡◌, ◌∙◌, ℕ, List, IfOk, length, ap, subst, arith}
+use Rattle.prec_file.specs.Rests.{RestsView, has_pair}
+use Rattle.places.specs.Prelude.{implied, lent}
 use Rattle.design_value.specs.Prelude.{AreOpen, marked_in}
-use Rattle.design_value.proofs.Leading.{none_passed, all_passed}
+use Rattle.design_value.proofs.BlockPairs.{same_list}
 use Rattle.design_value.proofs.open_pairs.open_pairs_of.Goals as goal
 
-pub loop-b-init : goal.loop-b-init
-loop-b-init c =
-    let none : c.new.result.items ≡ [] = search rules in
-    rw (none_passed c.args.predecessors.now.pairs) (record { all = refl; first = none })
+pub open_among-requires-clause-few : goal.open_among-requires-clause-few
+open_among-requires-clause-few c =
+    let v = lent c.as_ref-held.result in
+    let e = same_list v c.args.predecessors.now c.len-ways.ensures.all c.len-pairs.ensures.all (λ b p. c.blocks-blocks.ensures.same b p ∙ ap (λ (r : RestsView). has_pair r.pairs b p) c.as_ref-held.ensures) in
+    omega (arith, ap (λ (ps : List (ℕ × ℕ)). length ps) e, c.len-pairs.ensures.all.few)
 
 pub returns : goal.returns
 returns c =
-    let v = c.args.predecessors.now in
-    let end : c.loop-b.b ≡ v.blocks = omega arith in
-    let all = ap (λ (k : ℕ). take (first_of v.pairs k) v.pairs) end ∙ all_passed v c.len-blocks.ensures.all in
-    subst (λ (ps : List (ℕ × ℕ)). AreOpen (marked_in c.args.marks.now) ps c.loop-b.leading.count c.loop-b.leading.first.items) all c.loop-b.invariant
+    let v = lent c.as_ref-held.result in
+    let e = same_list v c.args.predecessors.now c.len-ways.ensures.all c.len-pairs.ensures.all (λ b p. c.blocks-blocks.ensures.same b p ∙ ap (λ (r : RestsView). has_pair r.pairs b p) c.as_ref-held.ensures) in
+    subst (λ (ps : List (ℕ × ℕ)). IfOk c.open_among.result (λ leading. AreOpen (marked_in c.args.marks.now) ps leading.count leading.first.items)) e c.open_among.ensures

@@ -1,40 +1,36 @@
-use Rattle.std.proofs.Common.{◌≡◌, ℕ, ◌+◌, ◌<◌, List, [], ◌∷◌, ◌++◌, length, take, get_or, sym, ap, ◌∙◌, subst, arith}
-use Rattle.prec_file.specs.Rests.{first_of, above_of}
-use Rattle.design_value.specs.Prelude.{AreOpen, marked_in}
-use Rattle.design_value.proofs.Leading.{next_pair, few_lead, block_passed}
+use Rattle.fixed_worth.proofs.Common.{◌≡◌, ℕ, ◌+◌, ◌++◌, ◌∙◌, false, All, List, length, sym, ap, subst, arith, add-one}
+use Rattle.prec_file.specs.Rests.{IsKnown}
+use Rattle.places.specs.Prelude.{row_of, pairs_below}
+use Rattle.design_value.specs.Prelude.{AreOpen, leads_out, marked_in}
+use Rattle.design_value.proofs.Leading.{stays_row}
+use Rattle.design_value.proofs.BlockPairs.{of_row, row_known, row_most}
 use Rattle.design_value.proofs.open_pairs.pass_block.Goals as goal
 
-pub loop-i-preserved : goal.loop-i-preserved
-loop-i-preserved c =
-    let v = c.args.predecessors.now in
-    let xs = c.above-row.result.now in
-    let inside : c.loop-i.i < length (above_of v.pairs c.args.b) = omega (arith, ap length c.above-row.ensures) in
-    let n = next_pair v c.len-blocks.ensures.all c.args.b c.loop-i.i inside in
-    let same : get_or xs c.loop-i.i 0 ≡ get_or (above_of v.pairs c.args.b) c.loop-i.i 0 = ap (λ (ys : List ℕ). get_or ys c.loop-i.i 0) c.above-row.ensures in
-    let before = take (first_of v.pairs c.args.b + c.loop-i.i) v.pairs in
-    let all : take (first_of v.pairs c.args.b + (c.loop-i.i + 1)) v.pairs ≡ before ++ (c.args.b, get_or xs c.loop-i.i 0) ∷ [] = n.1 ∙ ap (λ (p : ℕ). before ++ (c.args.b, p) ∷ []) (sym same) in
-    subst (λ (ps : List (ℕ × ℕ)). AreOpen (marked_in c.args.marks.now) ps c.pass_pair.new.leading.count c.pass_pair.new.leading.first.items) (sym all)
-    (c.in_ok-pass_pair.ensures (marked_in c.args.marks.now) before (sym c.leads_out_of-leads.ensures) c.loop-i.invariant)
+pub returns-then-not-leads_from : goal.returns-then-not-leads_from
+returns-then-not-leads_from g c =
+    let v = g.P.Precedence.shown c.args.held.now in
+    let b = c.args.b in
+    let design = marked_in c.args.marks.now in
+    rw (add-one b) (stays_row design (pairs_below v.rests v.blocks b) (row_of v.rests v.blocks b) _ _
+    (λ q k. let o = of_row v.rests v.blocks b q k in subst (λ (x : ℕ). leads_out design (x, q.1) ≡ false) (sym o.block) (c.leads_from.ensures c.if-not-leads_from.true q.1 o.passes))
+    c.requires.before)
 
-pub leads_out_of-leads-requires-clause-predecessor : goal.leads_out_of-leads-requires-clause-predecessor
-leads_out_of-leads-requires-clause-predecessor c =
-    let v = c.args.predecessors.now in
-    let inside : c.loop-i.i < length (above_of v.pairs c.args.b) = omega (arith, ap length c.above-row.ensures) in
-    let n = next_pair v c.len-blocks.ensures.all c.args.b c.loop-i.i inside in
-    let same = ap (λ (ys : List ℕ). get_or ys c.loop-i.i 0) c.above-row.ensures in
-    omega (arith, n.2, same, c.requires.all)
+pub pass_row-requires-clause-known : goal.pass_row-requires-clause-known
+pass_row-requires-clause-known g c =
+    let v = g.P.Precedence.shown c.args.held.now in
+    let e = c.as_slice.ensures.value ∙ c.in_ok-row.ensures in
+    subst (λ (n : ℕ). All (IsKnown n) c.as_slice.result.now) (sym c.requires.all) (subst (All (IsKnown v.blocks)) (sym e) (row_known v.rests v.blocks c.args.b c.requires.known))
 
-pub pass_pair-requires : goal.pass_pair-requires
-pass_pair-requires c =
-    let v = c.args.predecessors.now in
-    let r = c.len-blocks.ensures.all in
-    let inside : c.loop-i.i < length (above_of v.pairs c.args.b) = omega (arith, ap length c.above-row.ensures) in
-    let n = next_pair v r c.args.b c.loop-i.i inside in
-    let few = few_lead (marked_in c.args.marks.now) v.pairs (first_of v.pairs c.args.b + c.loop-i.i) c.loop-i.leading.count c.loop-i.leading.first.items (omega (arith, n.0)) c.loop-i.invariant in
-    omega (arith, few, n.0, c.len-blocks.ensures.few)
+pub pass_row-requires-clause-room : goal.pass_row-requires-clause-room
+pass_row-requires-clause-room g c =
+    let v = g.P.Precedence.shown c.args.held.now in
+    let e = c.as_slice.ensures.value ∙ c.in_ok-row.ensures in
+    omega (arith, c.requires.few, ap (λ (xs : List (ℕ × ℕ)). length xs) e, row_most v.rests v.blocks c.args.b, c.len-blocks.ensures.all.few)
 
 pub returns : goal.returns
-returns c =
-    let ps = c.args.predecessors.now.pairs in
-    let end : first_of ps c.args.b + c.loop-i.i ≡ first_of ps (c.args.b + 1) = omega (arith, block_passed ps c.args.b, ap length c.above-row.ensures) in
-    subst (λ (k : ℕ). AreOpen (marked_in c.args.marks.now) (take k ps) c.loop-i.leading.count c.loop-i.leading.first.items) end c.loop-i.invariant
+returns g c =
+    let v = g.P.Precedence.shown c.args.held.now in
+    let b = c.args.b in
+    let e = c.as_slice.ensures.value ∙ c.in_ok-row.ensures in
+    let before = pairs_below v.rests v.blocks b in
+    rw (add-one b) (subst (λ (xs : List (ℕ × ℕ)). AreOpen (marked_in c.args.marks.now) (before ++ xs) c.pass_row.new.leading.count c.pass_row.new.leading.first.items) e (c.in_ok-pass_row.ensures before c.requires.before))

@@ -1,14 +1,19 @@
-use Rattle.std.proofs.Common.{sym, subst}
-use Rattle.prec_file.specs.Rests.{RestsView}
-use Rattle.check_pit.specs.CertStreams.{IsReadFor}
-use Rattle.mine_inputs.specs.ReadMines.{AreRead}
+use Rattle.std.proofs.Common.{refl, subst}
+use Rattle.ordered_group.specs.declared.groups.Group.{Group}
 use Rattle.engines.specs.Readings.{IsHeader}
 use Rattle.engines.proofs.certificate_judge.judge_priced.Goals as goal
 
-pub judge_held-requires-clause-header : goal.judge_held-requires-clause-header
-judge_held-requires-clause-header g c = subst (λ (r : RestsView). IsReadFor r.blocks c.args.mine.group c.args.stream.now.header c.args.stream.now.fault) (sym c.of_list-held.ensures) c.requires.header
+pub returns-in-Worth-clause-judged : goal.returns-in-Worth-clause-judged
+returns-in-Worth-clause-judged g c = λ texts text read header stands.
+    let P : Group → Type 0 = λ k. IsHeader texts text c.args.mine.predecessors.blocks k in
+    c.judge_by.ensures.judged texts text read (record { block_is = refl; counts_is = refl; proves = c.greatest_set_is_richest_pit.ensures }) (subst P c.in-Worth.is header) stands
 
-pub returns-clause-judged : goal.returns-clause-judged
-returns-clause-judged g c = λ texts text read header stands.
-    let same = sym c.of_list-held.ensures in
-    c.judge_held.ensures.judged texts text (subst (AreRead texts c.args.mine.nanos.items) same read) (subst (λ (r : RestsView). IsHeader texts text r.blocks c.args.mine.group) same header) stands
+pub returns-in-Pair-clause-judged : goal.returns-in-Pair-clause-judged
+returns-in-Pair-clause-judged g c = λ texts text read header stands.
+    let P : Group → Type 0 = λ k. IsHeader texts text c.args.mine.predecessors.blocks k in
+    c.judge_by-in-Pair.ensures.judged texts text read (record { block_is = refl; counts_is = refl; proves = c.greatest_set_is_best_pit.ensures }) (subst P c.in-Pair.is header) stands
+
+pub returns-in-Scaled-clause-judged : goal.returns-in-Scaled-clause-judged
+returns-in-Scaled-clause-judged g c = λ texts text read header stands.
+    let P : Group → Type 0 = λ k. IsHeader texts text c.args.mine.predecessors.blocks k in
+    c.judge_by-in-Scaled.ensures.judged texts text read (record { block_is = refl; counts_is = refl; proves = c.greatest_set_is_best_pit-2.ensures }) (subst P c.in-Scaled.is header) stands

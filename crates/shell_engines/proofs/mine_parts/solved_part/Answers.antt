@@ -1,21 +1,24 @@
 use Rattle.fixed_worth.proofs.Common.{◌≡◌, ℕ, ◌<◌, All, List, length, get_or, Option, IfSome, ap, sym, subst, arith, get_or_read}
-use Rattle.ordered_group.specs.Block.{scaled_block}
 use Rattle.shells.specs.Prices.{priced_count}
 use Rattle.engines.proofs.Counted.{ascending_short}
-use Rattle.shell_engines.specs.declared.best_pits.BestPit.{BestPit}
 use Rattle.shell_engines.specs.declared.mine_parts.Halved.{Halved}
-use Rattle.shell_engines.specs.Prelude.{IsBestOf, IsNetAmong, IsBestAmong, AreHalved, mine_among}
+use Rattle.shell_engines.specs.Prelude.{IsBestAmong, AreHalved}
 use Rattle.shell_engines.proofs.mine_parts.solved_part.Goals as goal
 
-pub net_among-requires-clause-size : goal.net_among-requires-clause-size
-net_among-requires-clause-size c =
+pub pit_among-requires-clause-size : goal.pit_among-requires-clause-size
+pit_among-requires-clause-size c =
     let part = c.requires.part in
     let short = ascending_short c.args.part.now.kept.items (priced_count c.args.mine.now.prices) part.are_kept.ascending part.are_kept.below in
     let same = ap (λ (xs : List ℕ). length xs) c.as_slice-kept.ensures.value in
     omega (arith, short, same, c.args.mine.now.sizes)
 
-pub net_among-requires-clause-priced : goal.net_among-requires-clause-priced
-net_among-requires-clause-priced c = subst (All (λ b. b < priced_count c.args.mine.now.prices)) (sym c.as_slice-kept.ensures.value) c.requires.part.are_kept.below
+pub pit_among-requires-clause-priced : goal.pit_among-requires-clause-priced
+pit_among-requires-clause-priced c = subst (All (λ b. b < priced_count c.args.mine.now.prices)) (sym c.as_slice-kept.ensures.value) c.requires.part.are_kept.below
+
+pub by_pit-requires-clause-few : goal.by_pit-requires-clause-few
+by_pit-requires-clause-few c =
+    let part = c.requires.part in
+    omega (arith, ascending_short c.args.part.now.kept.items (priced_count c.args.mine.now.prices) part.are_kept.ascending part.are_kept.below, c.requires.priced.few)
 
 pub returns-clause-halved : goal.returns-clause-halved
 returns-clause-halved c =
@@ -24,11 +27,9 @@ returns-clause-halved c =
     let factors = c.args.mine.now.factors.items in
     let kept = c.args.part.now.kept.items in
     let k = c.index-factor.result.now in
-    let net = c.in-Ok.net in
-    let of = subst (λ (xs : List ℕ). IsNetAmong scaled_block pairs prices xs k net) c.as_slice-kept.ensures.value c.in-Ok.ensures in
-    let small : IsBestOf scaled_block net k c.in-Some.small = subst (λ (o : Option BestPit). IfSome o (IsBestOf scaled_block net k)) c.in-Some.is c.in_ok-small.ensures in
-    let best : IsBestAmong pairs prices kept k c.in-Some.small.pit = record { less = of.less; part = of.part; best = small.is_best (mine_among of.less prices kept k) of.of } in
+    let small = subst (λ (o : Option (List ℕ)). IfSome o (IsBestAmong pairs prices c.as_slice-kept.result.now k)) c.in-Some.is c.in_ok-small.ensures in
+    let best = subst (λ (xs : List ℕ). IsBestAmong pairs prices xs k c.in-Some.small) c.as_slice-kept.ensures.value small in
     let part = c.requires.part in
     let is_k : k ≡ get_or factors c.args.place 0 = get_or_read factors c.args.place k (omega (arith, c.requires.last, part.inside)) c.index-factor.ensures 0 in
-    let here = subst (λ f. IsBestAmong pairs prices kept f c.in-Some.small.pit) is_k best in
+    let here = subst (λ f. IsBestAmong pairs prices kept f c.in-Some.small) is_k best in
     subst (λ (o : Option Halved). IfSome o (AreHalved pairs prices factors)) c.in-Some-2.is (c.in_ok-found.ensures pairs c.requires.priced c.requires.part here)

@@ -5,8 +5,8 @@ use Rattle.mine_inputs.proofs.Priced.{first_size}
 use Rattle.shell_engines.proofs.Readings.{sloped_settings_unread, sloped_columns_missing, sloped_factors_refused, sloped_blocks_unread, sloped_prices_refused, sloped_pairs_refused, sloped_series_read}
 use Rattle.shell_engines.proofs.series_inputs.sloped_series.Goals as goal
 
-pub predecessors_by_slopes-requires : goal.predecessors_by_slopes-requires
-predecessors_by_slopes-requires g c =
+pub held_by_slopes-requires : goal.held_by_slopes-requires
+held_by_slopes-requires g c =
     let columns = c.in_ok-columns.columns in
     let m = c.in_ok-model.model in
     let size = c.in_ok-model.ensures.columns ∙ ap (λ (o : Option ℕ). length (columns_beside columns (columns_for o))) c.region.ensures.value in

@@ -1,7 +1,7 @@
 use Rattle.std.proofs.Common.{◌∙◌}
 use Rattle.ordered_group.specs.Block.{scaled_block}
 use Rattle.shell_engines.proofs.Among.{net_made}
-use Rattle.shell_engines.proofs.mine_parts.net_among.Goals as goal
+use Rattle.shell_engines.proofs.part_pits.net_among.Goals as goal
 
 pub returns : goal.returns
 returns c =
