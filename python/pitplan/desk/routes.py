@@ -22,16 +22,15 @@ from starlette.responses import FileResponse, JSONResponse, Response
 from starlette.routing import Route
 
 from ..base import events
-from ..base.errors import PlanError
 from ..base.files import put_aside, whole_file, write_json
 from ..base.study_lines import lines_of
-from ..base.typed_numbers import typed_number
+from ..base.typed_numbers import as_number
 from ..study import turns
 from ..table.study_keys import KEYS, LISTS, Key
 from . import runs, toml_text
 from .asked import Commands
 from .folder import BUNDLE, DESIGNS, HOME, TABLES, Folder, Refused
-from .folder import etag, refusal, stamp, writing
+from .folder import etag, refusal, refused, stamp, writing
 from .guard import SANDBOX
 from .manual import address, page_of
 from .worker import Worker
@@ -60,7 +59,7 @@ class Desk:
     def routes(self) -> list[Route]:
         """All of them."""
         at = "/api/studies/{study}"
-        run = at + "/runs/{number:int}"
+        run = at + "/runs/{number}"
         table: list[tuple[str, str, _Answer]] = [
             ("GET", "/api/folder", self.home),
             ("PUT", "/api/tables/{name}", self.upload),
@@ -149,8 +148,6 @@ class Desk:
                     raise Refused(422, kind["errors"][0]["said"], kind["errors"][0]["try"])
             os.chmod(part, 0o664)
             os.replace(part, path)
-        except ClientDisconnect:
-            raise Refused(400, "the upload was cut off") from None
         except OSError as error:
             error.filename = str(path)
             raise
@@ -260,7 +257,8 @@ class Desk:
         """A route that has a function of a run answer."""
 
         async def answer(request: Request) -> _Told:
-            return do(_numbered(self.named(request), request.path_params["number"]), request)
+            number = int(request.path_params["number"])
+            return do(_numbered(self.named(request), number), request)
 
         return answer
 
@@ -316,9 +314,7 @@ def _read(key: Key | None, value: Any) -> Any:
     """What was typed, as a number where its key takes one and it can be read in one way."""
     if isinstance(value, list):
         return [_read(key, each) for each in value]
-    is_number = isinstance(value, str) and key is not None and key.kind not in _WORDS
-    found = typed_number(value) if is_number else None
-    return found.value if found and found.other is None else value
+    return as_number(value) if key is not None and key.kind not in _WORDS else value
 
 
 def _changed(before: bytes, changes: Any, study: Path) -> bytes:
@@ -398,37 +394,26 @@ def _answering(do: _Answer) -> _Answer:
             found = await do(request)
             if isinstance(found, bytes):
                 return Response(found, media_type="image/png")
-            return found if isinstance(found, Response) else JSONResponse(_finite(found))
+            return found if isinstance(found, Response) else JSONResponse(_sayable(found))
+        except ClientDisconnect:
+            no = Refused(400, "what was sent broke off")
         except Exception as error:
-            no = _refused(error)
-        return JSONResponse(no.told, no.status)
+            no = refused(error)
+        return JSONResponse(_sayable(no.told), no.status)
 
     return answer
 
 
-def _refused(error: Exception) -> Refused:
-    """What a route has raised, as an answer; what is no planner's doing is raised again."""
-    match error:
-        case Refused():
-            return error
-        case PlanError():
-            return Refused(422, error.said, error.try_this)
-        case RecursionError():
-            return Refused(400, "the desk can't do that: it is nested too deep")
-        case ValueError() | KeyError():
-            return Refused(400, f"the desk can't do that: {error}")
-        case OSError():
-            return refusal(error)
-    raise error
-
-
-def _finite(value: Any) -> Any:
-    """What JSON can say: nothing in place of a number that is none."""
+def _sayable(value: Any) -> Any:
+    """What JSON can say: nothing in place of a number that is none, a date or a strange name as a text."""
     if isinstance(value, dict):
-        return {key: _finite(each) for key, each in value.items()}
+        return {key: _sayable(each) for key, each in value.items()}
     if isinstance(value, (list, tuple)):
-        return [_finite(each) for each in value]
-    return None if isinstance(value, float) and not math.isfinite(value) else value
+        return [_sayable(each) for each in value]
+    if isinstance(value, float):
+        return value if math.isfinite(value) else None
+    is_plain = value is None or isinstance(value, int)
+    return value if is_plain else str(value).encode("utf-8", "replace").decode()
 
 
 async def _own(request: Request) -> Response:

@@ -101,7 +101,8 @@ def look(study: Path) -> _Told:
     calls not estimated."""
     table, model = _table_of(study)
     columns, absent = model.get("columns", {}), model.get("absent")
-    names = tuple(sorted(columns.items())) if isinstance(columns, dict) else ()
+    columns = columns.items() if isinstance(columns, dict) else ()
+    names = tuple(sorted(it for it in columns if isinstance(it[1], str)))
     of = stamp(table), names, model.get("encoding")
     found = _looked(*of)
     marks = list(map(str, absent)) if isinstance(absent, list) else found.absent
@@ -125,7 +126,8 @@ def _table_of(study: Path) -> tuple[Path, _Told]:
     parts = parts_of_file(study)
     if parts.table is None:
         raise PlanError("study.toml names no table", key=("model", "table"))
-    return parts.table, parts.document.get("model", {})
+    model = parts.document["model"].items()  # an encoding that is none is told by the check
+    return parts.table, {key: it for key, it in model if key != "encoding" or isinstance(it, str)}
 
 
 @functools.lru_cache(maxsize=1)

@@ -1,6 +1,6 @@
 // Fields, made from the description of the keys of study.toml: most by the schema of their kind.
 import { amounts, box, button, choice, counted, entry, free, h, having, labelled, look, number,
-  same, small, tick } from "./dom.js";
+  same, small, tick, value, word } from "./dom.js";
 import { D, api, ask, byId, change, faults, here, keep, link, placeOf, stepped,
   valueOf } from "./desk.js";
 import { labelOf } from "./screens.js";
@@ -17,8 +17,6 @@ const listNow = name => valueOf(["economics", name]) ?? [];
 const keysIn = section => D.home.keys.filter(k => k.section === section);
 const keyOf = (section, name) => keysIn(section).find(k => k.name === name);
 const isTable = v => typeof v === "object" && v !== null && !Array.isArray(v);
-const word = text => text.trim() || null;
-const value = text => (Number.isNaN(Number(text)) ? text.trim() : word(text) && Number(text));
 /** Its unit, and before it a large number as it is read. @param {Key} k @param {any} now */
 const unitOf = (k, now) => [now].flat().filter(n => n >= 1e4).map(n => `= ${number(n)} `).join("")
   + k.unit.replace("{currency}", valueOf(["economics", "currency"]) ?? "$");

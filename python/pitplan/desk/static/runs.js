@@ -1,6 +1,6 @@
 // Runs: how far one is, and what it has said, from its events.
 import { amounts, button, card, chip, choice, entry, h, labelled, look, number, table, tick, tip,
-  when } from "./dom.js";
+  value, when } from "./dom.js";
 import { D, draw, eventsOf, file, going, keep, start, typed } from "./desk.js";
 import { faultBox } from "./fields.js";
 
@@ -24,7 +24,7 @@ export const boxes = (own, all) => amounts(Object.entries(all).map(([key, told])
 }));
 /** @param {Object<string, string>} own @returns {Object<string, number>} those that were typed */
 export const numbersIn = own => Object.fromEntries(Object.entries(own)
-  .filter(([, text]) => text !== "").map(([key, text]) => [key, Number(text)]));
+  .filter(([, text]) => text !== "").map(([key, text]) => [key, value(text)]));
 
 const by = { schedule: false };
 /** @param {string} words @returns {any} a box to tick, where the study has a plan by years */

@@ -1,6 +1,6 @@
 // The screens: each draws itself from what is known.
 import { amounts, at, button, card, chip, choice, entry, h, having, labelled, look, looks, number,
-  size, small, table, tick, tip, when } from "./dom.js";
+  size, small, table, tick, tip, value, when } from "./dom.js";
 import { D, agreed, api, ask, byId, draw, faults, file, go, keep, link, queue, say,
   tab } from "./desk.js";
 import { CALLED, banner, datalist, examples, faultBox, fields, mend, set,
@@ -205,7 +205,7 @@ function cuts() {
   const asked = { ...cut, at: cut.at ?? (middle || 0) };
   return [before(isOne), card("A plan or a section", boxes(cut, {
     cut: ["of", Object.entries(CUTS), way => { cut.at = null; return way; }],
-    at: ["at", { value: asked.at }, text => (text === "" ? null : Number(text))],
+    at: ["at", { value: asked.at }, value],
     colour: ["coloured by", ["shell", "value", ...(D.look?.columns ?? []).map(c => c.name)]] }),
   runner("draw", "Draw", { what: "plot", ...asked }, { needs: true })), runsOf("plot").slice(0, 1),
   pictures(isOne) || tip("Pictures are here once the pits are found.")];
@@ -271,13 +271,13 @@ const IFS = { price: [-20, 20, "%"], recovery: [-5, 5, "%"], mining: [-10, 10, "
 const chosen = { names: ["price", "recovery", "slope"] };
 function whatIf() {
   const { schedule, risk } = D.study.state;
-  const box = (name, i) => entry(`if.${name}.${i}`, IFS[name][i], keep(IFS[name], i, Number),
+  const box = (name, i) => entry(`if.${name}.${i}`, IFS[name][i], keep(IFS[name], i, value),
     { className: "w5", "aria-label": `${name} ${i ? "to" : "from"}` });
   const names = Object.keys(IFS).filter(name => name !== "sink" || years().schedule);
   const rows = names.map(name => [oneOf(`if.${name}`, name, chosen, "names"), box(name, 0),
     box(name, 1), IFS[name][2]]);
   const changes = names.filter(name => chosen.names.includes(name))
-    .map(name => `${name}=${IFS[name][0]}..${IFS[name][1]}`);
+    .map(name => [name, ...IFS[name].slice(0, 2)]);
   const label = `Find the ${years().schedule ? "plans" : "pits"} of these`;
   return [needed() || [card("One thing changed at a time", table(["", "from", "to", ""], rows),
     byYears("a plan by years for each, in place of a pit"),
