@@ -130,8 +130,8 @@ def _flag(key: str, asked: _Asked, option: str = "") -> _Words:
 
 def _numbers(asked: _Asked, *keys: str) -> _Words:
     """Options with a number, where they are asked for."""
-    told = [(f"--{key}".replace("_", "-"), asked[key]) for key in keys if key in asked]
-    return [word for option, value in told for word in (option, _number(value))]
+    told = [(key, asked[key]) for key in keys if asked.get(key) is not None]
+    return [it for key, value in told for it in (f"--{key}".replace("_", "-"), _number(value))]
 
 
 def _factor(asked: _Asked) -> _Words:

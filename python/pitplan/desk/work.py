@@ -135,7 +135,7 @@ def _lines(table: Any, columns: Any, encoding: str | None, absent: tuple[str, ..
     """A line for each column of a table, made once."""
     found, marks = _looked(table, columns, encoding), numbers_among(absent)
     frame = read_frame(Path(table[0]), found.dialect)
-    is_what = {own: name for name, own in found.names.items()}
+    is_what = {found.region: "region"} | {own: name for name, own in found.names.items()}
     is_what |= dict.fromkeys(found.grades, "grade")
     each = ((name, told_of(frame[name], marks)) for name in map(str, frame.columns))
     return [{"name": name, "is": is_what.get(name, ""), **told} for name, told in each]
@@ -259,9 +259,9 @@ def rose_picture(study: Path) -> bytes:
 def ground(study: Path, what: str) -> bytes:
     """The model from above, as PNG."""
     model = _kept_model(parts_of_file(study))
-    if model is None:
+    if model is None or parts.keys is None:
         raise PlanError("the table can't be read yet")
-    return _png(from_above(model, what))
+    return _png(from_above(model, what, Units(**parts.keys.units).length))
 
 
 def _png(figure: Any) -> bytes:

@@ -151,6 +151,7 @@ def test_all_of_it_is_done_by_keys(browser, desk, folder):
     tab_to(browser, "build")
     browser.keys(Keys.SPACE)
     browser.sees("build done by", "#main")
+    browser.there("#main .chip.good")
     browser.sees("built in keys")
 
 

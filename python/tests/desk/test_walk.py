@@ -140,6 +140,8 @@ def plans(browser, study):
     assert (study / "out" / "compare-hill-design" / "walls.csv").exists()
     browser.click("[id='to.history']")
     browser.sees("pitplan export hill --to dxf,vtu,csv")
+    chips = "return [...document.querySelectorAll('.runs-of .chip')].map(e => e.classList[1])"
+    assert browser.script(chips) == ["warn", "good", "good", "good"]  # of the design, of all else
     assert not (study / "log" / "desk" / "0005-x").exists()
 
 

@@ -9,7 +9,6 @@ import { labelOf } from "./screens.js";
  *   start: any, default: any, choices: string[]}} Key as study_keys.py has it */
 const placed = path => path.map((step, i) => (i === 2 && Array.isArray(valueOf(path.slice(0, 2)))
   ? listNow(path[1]).findIndex((each, n) => [each.name, n].includes(step)) : step));
-/** @param {any[]} path @returns {string} */
 const idOf = path => `i.${path.join(".")}`;
 const columns = () => (D.look?.columns ?? []).map(c => c.name);
 const rocks = () => D.look?.rocks ?? [];
@@ -30,7 +29,8 @@ function input(path, key, { width, list, shown = valueOf(path), read = value } =
   const isOwn = path.at(-1) === key.name; // and not one of several
   const step = Number.isInteger(path.at(-1)) ? path.at(-1) + 1 : "";
   return box(valueOf(path) ?? null, { id: idOf(path), className: `w${width ?? (isOwn ? 7 : 5)}`,
-    list, value: shown ?? "", placeholder: isOwn && typeof key.default !== "object" && key.default,
+    list, value: shown ?? "", placeholder: isOwn && [key.default, key.section === "schedule"
+      && valueOf(["shells", key.name])].find(usual => /number|string/.test(typeof usual)),
     "aria-label": (isOwn || step) && `${key.label} ${step}`, autocomplete: "off",
     title: key.section !== path[0] && `${key.label}: ${key.help}` },
   read, (now, was) => set(path, now, was));
@@ -335,15 +335,15 @@ function field(k) {
 /** @param {string} section @param {(name: string) => boolean} isOne @returns {any[]} its fields */
 export const fields = (section, isOne = () => true) => keysIn(section)
   .filter(k => isOne(k.name)).map(field);
-export const datalist = () => h("datalist", { id: "columns" },
-  columns().map(name => h("option", { value: name })));
 
 /** What is wrong here and has no field, and how much is wrong on other screens. */
 export function banner() {
   const isElsewhere = f => f.key?.length && placeOf(f.key) !== here();
   const places = faults().filter(isElsewhere).map(f => placeOf(f.key));
   const count = place => counted(places.filter(other => other === place).length, "error");
-  return h("div", faults().filter(f => !isElsewhere(f) && !keyOf(...f.key ?? [])).map(faultBox),
+  const homeless = faults().filter(f => !isElsewhere(f) && !keyOf(...f.key ?? []));
+  return h("div", h("datalist", { id: "columns" },
+    columns().map(value => h("option", { value }))), homeless.map(faultBox),
     [...new Set(places)].map(place => look(`${count(place)} on `,
       h("a", { href: link(D.study.name, place) }, labelOf(place)))));
 }

@@ -1,6 +1,6 @@
 // Runs: how far one is, and what it has said, from its events.
 import { amounts, button, card, chip, choice, entry, h, labelled, look, number, table, tick, tip,
-  value, when } from "./dom.js";
+  when } from "./dom.js";
 import { D, draw, eventsOf, file, going, keep, start, typed } from "./desk.js";
 import { faultBox } from "./fields.js";
 
@@ -22,9 +22,6 @@ export const boxes = (own, all) => amounts(Object.entries(all).map(([key, told])
   return labelled(key, label, Array.isArray(how) ? choice(key, how, own[key], keep(own, key, read))
     : entry(key, own[key], keep(own, key, read), { className: "w5", ...how }));
 }));
-/** @param {Object<string, string>} own @returns {Object<string, number>} those that were typed */
-export const numbersIn = own => Object.fromEntries(Object.entries(own)
-  .filter(([, text]) => text !== "").map(([key, text]) => [key, value(text)]));
 
 const by = { schedule: false };
 /** @param {string} words @returns {any} a box to tick, where the study has a plan by years */

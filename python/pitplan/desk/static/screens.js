@@ -3,13 +3,12 @@ import { amounts, at, button, card, chip, choice, entry, h, having, labelled, lo
   size, small, table, tick, tip, value, when } from "./dom.js";
 import { D, agreed, api, ask, byId, draw, faults, file, go, keep, link, queue, say,
   tab } from "./desk.js";
-import { CALLED, banner, datalist, examples, faultBox, fields, mend, set,
-  unused } from "./fields.js";
-import { before, boxes, byYears, chipOf, framed, linesOf, logOf, nameOf, numbersIn, pictures,
-  runner, runsOf, years } from "./runs.js";
+import { CALLED, banner, examples, faultBox, fields, mend, set, unused } from "./fields.js";
+import { before, boxes, byYears, chipOf, framed, linesOf, logOf, nameOf, pictures, runner, runsOf,
+  years } from "./runs.js";
 
 /** A box to tick for a value of a list. @param {any} one @param {any} own @param {string} key */
-const oneOf = (id, one, own, key) => tick(id, one, own[key].includes(one),
+const oneOf = (id, one, own, key, label = one) => tick(id, label, own[key].includes(one),
   keep(own, key, is => having(own[key], one, is)));
 
 /** Takes a file to the server. @param {File} dropped @param {string} path
@@ -31,7 +30,7 @@ function dropPlace(words, ends, take) {
   };
   const failed = D.dropped;
   return [h("label.drop", { ondragover: mark(true), ondragleave: mark(false), ondrop: mark(false) },
-    h("b", words), h("span", `or choose one: ${ends}`),
+    h("b", words), h("span", `or choose one: ${ends.replaceAll(",", ", ")}`),
     h("input", { type: "file", id: "pick", accept: ends, "aria-label": words, onchange })),
   failed && [failed.errors.map(faultBox), failed.exists && button("Put it in its place",
     failed.again, { id: "over" })]];
@@ -104,7 +103,7 @@ function tableScreen() {
     ${check.shape.join(" x ")}.`;
   const notes = [...unused(), ...(seen?.notes ?? []).map(n => h("li.look", n)),
     ...(check?.notes ?? []).filter(n => !n.startsWith("columns:")).map(n => h("li", n))];
-  return [datalist(), banner(), h("div.two",
+  return [banner(), h("div.two",
     h("div", card("The table", seen?.rows ? h("p", h("b", number(seen.rows)), " rows. ", blocks)
       : tip(seen ? "" : "is looked at ..."), looks(notes), fields("model", n => n === "table")),
     card("What is what", fields("model", n => MODEL.includes(n)), seen?.differs?.length > 0 && look(
@@ -132,7 +131,7 @@ function money() {
   const { tonnage: t, looks: all = [], forbidden, blocks } = D.check ?? {};
   const isWrong = faults().length > 0;
   const isOther = name => !["metals", ...COSTS].includes(name);
-  return [datalist(), banner(), card("In the ground",
+  return [banner(), card("In the ground",
     t && [tip(t.title), table(t.names, t.rows, { className: isWrong ? "old" : "sums" })],
     forbidden !== undefined && tip(number(forbidden), " of ", number(blocks),
       " blocks may not be dug."),
@@ -175,13 +174,13 @@ function build() {
   runsOf("build", "shells", "all")];
 }
 
-const ends = { gap: "", minutes: "", mining_width: "" };
+const ends = { gap: null, minutes: null, mining_width: null };
 const plan = () => [banner(), card("Terms of the plan", fields("schedule")),
   needed() || card("Run", boxes(ends, {
-  gap: ["end within so many percent of the bound", { placeholder: "0.1" }],
-  minutes: ["or after so many minutes", { placeholder: "30" }],
-  mining_width: ["least width for machines", {}] }),
-runner("schedule", "Find a plan by years", { what: "schedule", ...numbersIn(ends) },
+  gap: ["end within so many percent of the bound", { placeholder: "0.1" }, value],
+  minutes: ["or after so many minutes", { placeholder: "30" }, value],
+  mining_width: ["least width for machines", {}, value] }),
+runner("schedule", "Find a plan by years", { what: "schedule", ...ends },
   { needs: true, main: true })),
 runsOf("schedule"), framed("out/schedule.html", "the plan by years in three dimensions"),
 pictures(f => /^out\/schedule[^/]*\.png$/.test(f.path))];
@@ -212,13 +211,14 @@ function cuts() {
 }
 
 const out = { kinds: ["dxf", "vtu", "csv"], crs: "", corners: false };
-const KINDS = ["dxf", "vtu", "csv", "gpkg", "minelib"];
+const KINDS = { dxf: "CAD (dxf)", vtu: "ParaView (vtu)", csv: "spreadsheets (csv)",
+  gpkg: "GIS (gpkg)", minelib: "other optimisers (minelib)" };
 function files() {
   const rows = D.study.files.map(f => [f.path, size(f.bytes), when(f.when), h("a", {
     href: file(f.path, "?save=1"), download: "", "aria-label": `save ${f.path}` }, "save")]);
   return [before(f => f.path === "out/pit_by_pit.csv"),
-    card("For CAD, ParaView, GIS, spreadsheets, and other optimisers (minelib)",
-      amounts(KINDS.map(kind => oneOf(`kind.${kind}`, kind, out, "kinds")), boxes(out, {
+    card("Files for other programs", amounts(Object.entries(KINDS).map(([kind, label]) => oneOf(
+      `kind.${kind}`, kind, out, "kinds", label)), boxes(out, {
         crs: ["coordinate system", { className: "w9", placeholder: "EPSG:32719" }],
         corners: "cut corners" }), byYears("the mine at the end of each year, in place of pits")),
       runner("write", "Write", { what: "export", ...out, ...years() }, { needs: true }),
@@ -237,14 +237,14 @@ const pits = (part = "run") => [h("div.tabs", Object.entries(PARTS).map(([key, [
 const needed = () => (!D.study.state.there || D.study.state.old) && card(null, tip(
   "This needs proved pits: ", h("a", { href: link(D.study.name, "pits") },
     "build, and find the pits"), "."));
-const wanted = { factors: [], width: "" };
+const wanted = { factors: [], width: null };
 function pushbacks() {
   const factors = [...wanted.factors].sort((a, b) => a - b);
   const marks = (D.study.state.factors ?? []).map(f => oneOf(`phase.${f}`, f, wanted, "factors"));
   return [needed() || card("Pits that end a pushback, by their factor",
     h("div.grid.narrow", marks), boxes(wanted, { width: [
-      "least width for machines, in the unit of the coordinates", {}] }),
-    runner("cut", "Cut", { what: "phases", ...numbersIn({ mining_width: wanted.width }), factors },
+      "least width for machines, in the unit of the coordinates", {}, value] }),
+    runner("cut", "Cut", { what: "phases", mining_width: wanted.width, factors },
       { needs: true })), runsOf("phases")];
 }
 
@@ -265,21 +265,24 @@ function designs() {
     runsOf("compare"), pictures(f => /^out\/compare-[^/]*\/.*\.png$/.test(f.path))];
 }
 
-const IFS = { price: [-20, 20, "%"], recovery: [-5, 5, "%"], mining: [-10, 10, "%"],
-  processing: [-10, 10, "%"], slope: [-3, 3, "degrees"], discount: [-2, 2, "points"],
-  sink: [-1, 1, "benches a year"] };
+const POINTS = "points: from 8 % to 10 % a year are 2";
+const IFS = { price: [-20, 20, "percent", "prices"], recovery: [-5, 5, "percent", "recoveries"],
+  mining: [-10, 10, "percent", "costs of mining"], slope: [-3, 3, "degrees", "slope angles"],
+  processing: [-10, 10, "percent", "costs of processing"], discount: [-2, 2, POINTS, "discount"],
+  sink: [-1, 1, "benches a year", "how fast a pushback sinks"] };
 const chosen = { names: ["price", "recovery", "slope"] };
 function whatIf() {
   const { schedule, risk } = D.study.state;
   const box = (name, i) => entry(`if.${name}.${i}`, IFS[name][i], keep(IFS[name], i, value),
-    { className: "w5", "aria-label": `${name} ${i ? "to" : "from"}` });
+    { className: "w5", "aria-label": `${IFS[name][3]} ${i ? "to" : "from"}` });
   const names = Object.keys(IFS).filter(name => name !== "sink" || years().schedule);
-  const rows = names.map(name => [oneOf(`if.${name}`, name, chosen, "names"), box(name, 0),
-    box(name, 1), IFS[name][2]]);
+  const rows = names.map(name => [oneOf(`if.${name}`, name, chosen, "names", IFS[name][3]),
+    box(name, 0), box(name, 1), IFS[name][2]]);
   const changes = names.filter(name => chosen.names.includes(name))
     .map(name => [name, ...IFS[name].slice(0, 2)]);
   const label = `Find the ${years().schedule ? "plans" : "pits"} of these`;
-  return [needed() || [card("One thing changed at a time", table(["", "from", "to", ""], rows),
+  return [needed() || [card("One thing changed at a time",
+    table(["", "from", "to", ""], rows, { words: 4 }),
     byYears("a plan by years for each, in place of a pit"),
     runner("vary", label, { what: "vary", changes, ...years() }, { needs: true })),
   schedule && risk && card("The plan by years under each realisation",
