@@ -258,7 +258,7 @@ def rose_picture(study: Path) -> bytes:
 
 def ground(study: Path, what: str) -> bytes:
     """The model from above, as PNG."""
-    model = _kept_model(parts_of_file(study))
+    model = _kept_model(parts := parts_of_file(study))
     if model is None or parts.keys is None:
         raise PlanError("the table can't be read yet")
     return _png(from_above(model, what, Units(**parts.keys.units).length))
