@@ -195,6 +195,16 @@ def test_what_nobody_has_foreseen_is_told_in_words_and_where_it_came_from(capsys
         assert "test_requests.py" in capsys.readouterr().err
 
 
+def test_a_formula_is_read_by_pitplan_and_runs_nothing(client, study):
+    made = study.parent / "made"
+    text = f"__import__('os').system('touch {made}')"
+    change = {"path": ["economics", "mining"], "value": text}
+    assert client.patch("/api/studies/s", json={"changes": [change]}).status_code == 200
+    told = client.get("/api/studies/s/check").json()["errors"]
+    assert ["economics", "mining"] in [error["key"] for error in told]
+    assert not made.exists()
+
+
 def broken_off(study):
     return next(iter(()))
 
