@@ -400,6 +400,24 @@ def test_a_number_with_a_separator_is_named_and_put_right_by_a_button(browser, d
     assert "price = 1250.5," in study.read_text()
 
 
+def test_what_ifs_are_named_and_take_a_decimal_comma(browser, desk):
+    browser.get(f"{desk.address}/#/hill/vary")
+    for words in ("costs of processing", "slope angles", "points: from 8 % to 10 % a year are 2"):
+        browser.sees(words, "#main table")
+    browser.fills("[id='if.price.0']", "-12,5")
+    browser.sees("pitplan vary hill price=-12.5..20 recovery=-5..5 slope=-3..3", "#main")
+    browser.fills("[id='if.price.0']", "9,250")  # which may be either
+    browser.sees("'9,250' is no number; try: digits, and a point before decimals", "#main .typed")
+    browser.fills("[id='if.price.0']", "-20")
+
+
+def test_a_term_that_the_plan_by_years_takes_from_elsewhere_is_shown_in_its_box(browser, desk):
+    shown(browser, desk, "hill/pits/years")
+    usual = "return document.getElementById('i.schedule.discount').placeholder"
+    assert browser.script(usual) == "0.08"
+    assert "0.08" in browser.text("[id='line.shells.discount']")
+
+
 def test_the_manual_is_a_link_where_it_is_there(browser, desk):
     browser.get(f"{desk.address}/#/")
     browser.sees("The manual")

@@ -254,7 +254,7 @@ function nav(isStudy) {
 }
 
 /** Shows the field of a key. @param {string} section @param {string} key */
-async function toField(section, key) {
+export async function toField(section, key) {
   const id = `f.${section}.${key}`;
   if (!byId(id)) location.hash = link(D.study.name, placeOf([section]));
   await go();

@@ -1,7 +1,7 @@
 // Fields, made from the description of the keys of study.toml: most by the schema of their kind.
 import { amounts, box, button, choice, counted, entry, free, h, having, labelled, look, number,
   same, small, tick, value, word } from "./dom.js";
-import { D, api, ask, byId, change, faults, here, keep, link, placeOf, stepped,
+import { D, api, ask, byId, change, faults, here, keep, link, placeOf, stepped, toField,
   valueOf } from "./desk.js";
 import { labelOf } from "./screens.js";
 
@@ -336,14 +336,16 @@ function field(k) {
 export const fields = (section, isOne = () => true) => keysIn(section)
   .filter(k => isOne(k.name)).map(field);
 
-/** What is wrong here and has no field, and how much is wrong on other screens. */
+/** What is wrong here and has no field, where what has one stands, and what is wrong elsewhere. */
 export function banner() {
-  const isElsewhere = f => f.key?.length && placeOf(f.key) !== here();
-  const places = faults().filter(isElsewhere).map(f => placeOf(f.key));
-  const count = place => counted(places.filter(other => other === place).length, "error");
-  const homeless = faults().filter(f => !isElsewhere(f) && !keyOf(...f.key ?? []));
-  return h("div", h("datalist", { id: "columns" },
-    columns().map(value => h("option", { value }))), homeless.map(faultBox),
-    [...new Set(places)].map(place => look(`${count(place)} on `,
-      h("a", { href: link(D.study.name, place) }, labelOf(place)))));
+  const isHere = f => placeOf(f.key) === here();
+  const isHomeless = f => !f.key?.length || (isHere(f) && !keyOf(...f.key));
+  const rest = faults().filter(f => !isHomeless(f));
+  const own = rest.find(isHere)?.key;
+  const told = (place, at, all) => all.indexOf(place) === at && look(
+    counted(all.filter(other => other === place).length, "error"), place === here()
+      ? [" below: ", small(keyOf(...own).label, () => toField(...own))]
+      : [" on ", h("a", { href: link(D.study.name, place) }, labelOf(place))]);
+  return h("div", h("datalist", { id: "columns" }, columns().map(value => h("option", { value }))),
+    faults().filter(isHomeless).map(faultBox), rest.map(f => placeOf(f.key)).map(told));
 }

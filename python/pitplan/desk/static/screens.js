@@ -162,14 +162,13 @@ const slopes = () => [banner(), card("What is asked for", fields("slopes")),
 const asks = { certificates: false };
 function build() {
   const factors = D.check?.factors ?? [];
-  const more = asks.certificates ? asks : {};
   const { old } = D.study.state;
   return [banner(), card("Series of pits", fields("shells"),
     factors.length > 0 && tip(`${factors.length} pits, at `, factors.map(f => f / 1000).join(", "),
       " of the price. Rates are for the discounted cases alone.")), card("Run", old && look(old),
-    examples(), runner("all", "Build, and find the pits", { what: "all", ...more }, { main: true }),
+    examples(), runner("all", "Build, and find the pits", { what: "all", ...asks }, { main: true }),
     runner("build", "Build", { what: "build" }),
-    runner("shells", "Find the pits", { what: "shells", ...more }, { needs: true }),
+    runner("shells", "Find the pits", { what: "shells", ...asks }, { needs: true }),
     boxes(asks, { certificates: "with certificates, for an auditor: slower" })),
   runsOf("build", "shells", "all")];
 }
@@ -199,9 +198,8 @@ const cut = { cut: "bench", at: null, colour: "shell" }; // at an elevation, or 
 const CUTS = { bench: "the bench at elevation", row: "along row", column: "along column" };
 function cuts() {
   const isOne = f => f.path.endsWith(".png") && !f.path.startsWith("out/older/");
-  const benches = D.check?.benches ?? [];
-  const middle = cut.cut === "bench" && benches[Math.floor(benches.length / 2)];
-  const asked = { ...cut, at: cut.at ?? (middle || 0) };
+  const benches = (cut.cut === "bench" && D.check?.benches) || [];
+  const asked = { ...cut, at: cut.at ?? benches.at(benches.length / 2) ?? 0 };
   return [before(isOne), card("A plan or a section", boxes(cut, {
     cut: ["of", Object.entries(CUTS), way => { cut.at = null; return way; }],
     at: ["at", { value: asked.at }, value],
