@@ -568,6 +568,7 @@ def test_the_name_of_a_study_is_whole_while_something_runs(browser, desk, folder
 
 def test_a_design_that_breaks_the_slopes_is_marked(browser, desk, folder):
     shutil.copytree(folder / "hill", folder / "broken")
+    browser.get("about:blank")  # what was said of another study stays for half a minute
     browser.get(f"{desk.address}/#/broken/designs")
     browser.gives("#pick", TOP / "examples" / "hill-design.dxf")
     browser.there("#compare:not([disabled])")
@@ -578,4 +579,5 @@ def test_a_design_that_breaks_the_slopes_is_marked(browser, desk, folder):
     browser.sees("done", "#main .chip.warn")
     browser.click("[id='to.history']")
     browser.sees("done", ".runs-of .chip.warn")
-    assert "bad" not in browser.script("return document.querySelector('#say').innerHTML")
+    browser.hears("design: done")
+    assert not browser.text("#say .bad")

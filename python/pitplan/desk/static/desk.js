@@ -233,7 +233,7 @@ function top() {
   const run = going();
   like(byId("now"), nodes([
     h("h1", { className: D.study ? "" : "quiet" }, D.study?.name ?? D.home?.folder ?? ""),
-    D.study?.state && h("span", { id: "state" }, chip(...D.study.state.said)),
+    !run && D.study?.state && h("span", { id: "state" }, chip(...D.study.state.said)),
     run && h("div", { id: "running" }, h("code", run.far.command),
       h("span", `${run.far.what}, ${number(run.seconds)} s`), bar(run.far),
       button("Stop", () => ask("DELETE", api("runs", run.number)),
