@@ -400,6 +400,16 @@ def test_a_number_with_a_separator_is_named_and_put_right_by_a_button(browser, d
     assert "price = 1250.5," in study.read_text()
 
 
+def test_no_card_is_empty_while_something_is_wrong(browser, desk, folder):
+    shutil.copytree(folder / "hill", folder / "steep")
+    browser.get(f"{desk.address}/#/steep/slopes")
+    browser.types("i.slopes.angles", "145")
+    browser.sees("from 5 to 89 degrees", "[id='f.slopes.angles'] .fault")
+    browser.sees("Nothing can be said before that is put right", "#main")
+    bare = "return [...document.querySelectorAll('#main .card')].filter(e => e.innerText.trim() === e.querySelector('h2')?.innerText).length"
+    assert browser.script(bare) == 0
+
+
 def test_what_ifs_are_named_and_take_a_decimal_comma(browser, desk):
     browser.get(f"{desk.address}/#/hill/vary")
     for words in ("costs of processing", "slope angles", "points: from 8 % to 10 % a year are 2"):

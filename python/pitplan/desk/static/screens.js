@@ -105,7 +105,7 @@ function tableScreen() {
     ...(check?.notes ?? []).filter(n => !n.startsWith("columns:")).map(n => h("li", n))];
   return [banner(), h("div.two",
     h("div", card("The table", seen?.rows ? h("p", h("b", number(seen.rows)), " rows. ", blocks)
-      : tip(seen ? "" : "is looked at ..."), looks(notes), fields("model", n => n === "table")),
+      : tip(seen ? LATER : "is looked at ..."), looks(notes), fields("model", n => n === "table")),
     card("What is what", fields("model", n => MODEL.includes(n)), seen?.differs?.length > 0 && look(
       "The table looks otherwise: ", seen.differs.map(([key, found]) => small(
         `${key} = ${JSON.stringify(found)}`, () => set(["model", key], found)))),
@@ -126,6 +126,7 @@ const columnsOf = ({ columns, marks }) => card("Columns",
     "no number", "words"], columns.map(c => [c.name, h("b", c.is), ...c.told]),
   { words: 2, className: "columns" }));
 
+const LATER = "Nothing can be said before that is put right.";
 const COSTS = ["mining", "processing", "processes"];
 function money() {
   const { tonnage: t, looks: all = [], forbidden, blocks } = D.check ?? {};
@@ -136,8 +137,7 @@ function money() {
     forbidden !== undefined && tip(number(forbidden), " of ", number(blocks),
       " blocks may not be dug."),
     looks([...unused(), ...all.map(l => h("li.look", l.said, mend(l.remedy)))])
-      || tip(isWrong ? "Nothing can be said before that is put right."
-        : t ? "Nothing looks wrong." : "is worked out ...")),
+      || tip(isWrong ? LATER : t ? "Nothing looks wrong." : "is worked out ...")),
   card("Metals", fields("economics", n => n === "metals")),
   card("Costs", fields("economics", n => COSTS.includes(n))),
   card("Mill, and what may not be dug", fields("economics", isOther))];
@@ -155,7 +155,7 @@ function walls({ names, rows, said, looks: all }) {
 }
 
 const slopes = () => [banner(), card("What is asked for", fields("slopes")),
-  D.rose?.rows ? walls(D.rose) : card("Walls by bearing", tip(D.rose ? "" : "are looked for ...")),
+  D.rose?.rows ? walls(D.rose) : card("Walls by bearing", tip(D.rose ? LATER : "is drawn ...")),
   card("The same as a table and a picture", runner("slopes", "Write them", { what: "slopes" })),
   runsOf("slopes")];
 
