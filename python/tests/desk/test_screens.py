@@ -400,6 +400,19 @@ def test_a_number_with_a_separator_is_named_and_put_right_by_a_button(browser, d
     assert "price = 1250.5," in study.read_text()
 
 
+def test_a_study_that_cannot_be_read_hides_no_other_one(browser, desk, folder):
+    shutil.copytree(TOP / "examples" / "hill", folder / "shut")
+    (folder / "shut" / "model" / "manifest.json").mkdir(parents=True)
+    browser.get("about:blank")
+    browser.get(f"{desk.address}/#/")
+    browser.sees("can't be read", "#main .chip.bad")
+    browser.press_on("#main td a", "shut")
+    browser.hears("manifest.json: Is a directory")
+    browser.press_on("#main td a", "hill")
+    browser.sees("5,041 rows", "#main")
+    shutil.rmtree(folder / "shut")
+
+
 def test_no_card_is_empty_while_something_is_wrong(browser, desk, folder):
     shutil.copytree(folder / "hill", folder / "steep")
     browser.get(f"{desk.address}/#/steep/slopes")
