@@ -113,9 +113,12 @@ class Folder:
 
     def results(self, study: Path) -> list[dict[str, Any]]:
         """What there is to take away: tables, pictures, files for CAD, designs, bundles."""
-        inside = [path for top in ("out", "designs") for path in sorted((study / top).rglob("*"))]
-        names = [path.relative_to(study).as_posix() for path in inside if path.is_file()]
-        found = [_told_of(study / it, it) for it in names if not re.search(r"(^|/)\.", it)]
+        try:
+            inside = [it for top in ("out", "designs") for it in sorted((study / top).rglob("*"))]
+            names = [path.relative_to(study).as_posix() for path in inside if path.is_file()]
+            found = [_told_of(study / it, it) for it in names if not re.search(r"(^|/)\.", it)]
+        except FileNotFoundError:  # a run has moved it meanwhile
+            return self.results(study)
         bundles = [path for path in sorted(study.glob(f"{BUNDLE}*")) if path.is_dir()]
         return found + [{**_told_of(it, f"{it.name}.zip"), "bytes": None} for it in bundles]
 

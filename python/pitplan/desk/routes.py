@@ -124,9 +124,8 @@ class Desk:
             for name in self.folder.studies()
         ]
         keys = [{**asdict(key), **key.form} for key in KEYS]
-        tables = self.folder.tables()
-        told = {"studies": found, "tables": tables, "keys": keys, "manual": address()}
-        return {"folder": str(self.folder.root), **told}
+        told = {"studies": found, "tables": self.folder.tables(), "manual": address()}
+        return {"folder": str(self.folder.root), "keys": keys, **told}
 
     async def upload(self, request: Request) -> _Told:
         """Takes a file as it comes, into one beside its place; nothing that is there is lost before all of it has come."""
@@ -196,13 +195,12 @@ class Desk:
         except Refused as refused:
             outside = [{**refused.told["errors"][0], "key": ["model", "table"]}]
         designs = sorted(it.name for it in (study / "designs").glob("[!.]*"))
-        told = {"name": study.name, "text": text, "values": values, "outside": outside}
-        told["lines"] = lines_of(text)
+        told = {"name": study.name, "text": text, "values": values, "lines": lines_of(text)}
         told |= {"runs": list(map(_shown, runs.of(study))), "files": self.folder.results(study)}
         state = await self.quick("overview", study)
         if "errors" in state:
             raise Refused(503, state["errors"][0]["said"], state["errors"][0]["try"])
-        return {**told, "state": state, "designs": designs, "pulse": pulse}
+        return {**told, "outside": outside, "state": state, "designs": designs, "pulse": pulse}
 
     def beat(self, study: Path) -> _Told:
         """What study.toml, the table and the latest run are now, and who has the study."""
@@ -257,8 +255,7 @@ class Desk:
         """A route that has a function of a run answer."""
 
         async def answer(request: Request) -> _Told:
-            number = int(request.path_params["number"])
-            return do(_numbered(self.named(request), number), request)
+            return do(_numbered(self.named(request), int(request.path_params["number"])), request)
 
         return answer
 

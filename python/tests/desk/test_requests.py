@@ -3,6 +3,8 @@ is TOML after each change of its keys."""
 import json
 import os
 import random
+import shutil
+import threading
 import tomllib
 from pathlib import Path
 
@@ -231,3 +233,27 @@ def test_dates_half_letters_and_numbers_that_are_none_are_answered(client, study
 @pytest.mark.parametrize("number, status", [(36, 404), (20, 404), (2, 404), (28, 507), (5, 500)])
 def test_a_name_that_leads_nowhere_is_not_there(number, status):
     assert refusal(OSError(number, os.strerror(number), "x" * 300)).status == status
+
+
+def test_files_that_a_run_moves_meanwhile_cost_no_answer(client, study):
+    """As an export does: a folder beside its place, which is renamed once it is whole."""
+    out, done = study / "out", threading.Event()
+    out.mkdir()
+    for n in range(30):
+        (out / f"{n}.csv").write_text("x")
+
+    def moves():
+        while not done.is_set():
+            (out / ".part" / "plans").mkdir(parents=True)
+            (out / ".part").rename(out / "compare")
+            shutil.rmtree(out / "compare")
+
+    mover = threading.Thread(target=moves)
+    mover.start()
+    try:
+        for _ in range(200):
+            assert len(Folder(study.parent).results(study)) == 30
+    finally:
+        done.set()
+        mover.join()
+    assert client.get("/api/studies/s").status_code == 200
