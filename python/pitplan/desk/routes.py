@@ -194,22 +194,22 @@ class Desk:
             self.folder.table_of(study)
         except Refused as refused:
             outside = [{**refused.told["errors"][0], "key": ["model", "table"]}]
-        designs = sorted(it.name for it in (study / "designs").glob("[!.]*"))
         told = {"name": study.name, "text": text, "values": values, "lines": lines_of(text)}
         told |= {"runs": list(map(_shown, runs.of(study))), "files": self.folder.results(study)}
         state = await self.quick("overview", study)
         if "errors" in state:
             raise Refused(503, state["errors"][0]["said"], state["errors"][0]["try"])
-        return {**told, "outside": outside, "state": state, "designs": designs, "pulse": pulse}
+        return {**told, "outside": outside, "state": state, "pulse": pulse}
 
     def beat(self, study: Path) -> _Told:
-        """What study.toml, the table and the latest run are now, and who has the study."""
+        """What study.toml, the table, the designs and the latest run are now, and who has the study."""
         found, holder, table = runs.of(study), turns.is_held(study), ""
         with suppress(OSError, Refused):
             table = str(stamp(self.folder.table_of(study) or study / "no table"))
         latest = {key: found[0][key] for key in ("number", "state")} if found else None
         now = {"etag": etag((study / "study.toml").read_bytes()), "table": table, "run": latest}
-        return {**now, "held": str(holder) if holder else None}
+        designs = sorted(it.name for it in (study / "designs").glob("[!.]*"))
+        return {**now, "designs": designs, "held": str(holder) if holder else None}
 
     async def change(self, request: Request) -> _Told:
         """Writes study.toml: some keys, or the whole text. Refused where somebody has changed the same meanwhile."""

@@ -249,10 +249,10 @@ function pushbacks() {
 const design = { design: "", as: "surface", factor: 1 };
 const dropped = it => send(it, api("designs", it.name), told => {
   Object.assign(design, { design: it.name, as: told.as ?? "surface" });
-  if (!D.study.designs.includes(it.name)) D.study.designs.push(it.name);
+  if (!D.study.pulse.designs.includes(it.name)) D.study.pulse.designs.push(it.name);
 });
 function designs() {
-  const all = D.study.designs;
+  const all = D.study.pulse.designs;
   if (!all.includes(design.design)) design.design = all[0] ?? "";
   const kinds = [["surface", "a surface: faces, or points x, y, z"], ["ids", "ids of blocks"]];
   return [dropPlace("Drop a designed pit here", ".dxf,.csv,.txt", dropped),
