@@ -98,6 +98,12 @@ for (let n = walker.nextNode(); n; n = walker.nextNode()) {
   const size = parseFloat(style.fontSize), isLarge = size >= 24 || (size >= 18.66 && style.fontWeight >= 700);
   if (ratio < (isLarge ? 3 : 4.5)) low.add(`${ratio.toFixed(2)} ${style.color} ${n.data.trim().slice(0, 40)}`);
 }
+for (const e of document.querySelectorAll("input[placeholder]")) {
+  const style = getComputedStyle(e, "::placeholder");
+  const [a, b] = [light(parts(style.color).slice(0, 3)), light(back(e))];
+  const ratio = (Math.max(a, b) + 0.05) / (Math.min(a, b) + 0.05);
+  if (ratio < 4.5 || Number(style.opacity) < 1) low.add(`${ratio.toFixed(2)} ${style.color} ${e.placeholder}`);
+}
 return [count, [...low]]
 """
 
@@ -425,7 +431,7 @@ def test_no_card_is_empty_while_something_is_wrong(browser, desk, folder):
 
 def test_what_ifs_are_named_and_take_a_decimal_comma(browser, desk):
     browser.get(f"{desk.address}/#/hill/vary")
-    for words in ("costs of processing", "slope angles", "points: from 8 % to 10 % a year are 2"):
+    for words in ("costs of treating", "slope angles", "points: from 8 % to 10 % a year are 2"):
         browser.sees(words, "#main table")
     browser.fills("[id='if.price.0']", "-12,5")
     browser.sees("pitplan vary hill price=-12.5..20 recovery=-5..5 slope=-3..3", "#main")

@@ -265,8 +265,8 @@ function designs() {
 
 const POINTS = "points: from 8 % to 10 % a year are 2";
 const IFS = { price: [-20, 20, "percent", "prices"], recovery: [-5, 5, "percent", "recoveries"],
-  mining: [-10, 10, "percent", "costs of mining"], slope: [-3, 3, "degrees", "slope angles"],
-  processing: [-10, 10, "percent", "costs of processing"], discount: [-2, 2, POINTS, "discount"],
+  mining: [-10, 10, "percent", "costs of digging"], slope: [-3, 3, "degrees", "slope angles"],
+  processing: [-10, 10, "percent", "costs of treating"], discount: [-2, 2, POINTS, "discount"],
   sink: [-1, 1, "benches a year", "how fast a pushback sinks"] };
 const chosen = { names: ["price", "recovery", "slope"] };
 function whatIf() {
