@@ -164,7 +164,7 @@ def refusal(error: OSError, what: str = "") -> Refused:
     if error.errno in (errno.EACCES, errno.EPERM, errno.EROFS):
         user = os.environ.get("USER", "the desk")
         return Refused(403, said, f"a folder that {user} may write in")
-    return Refused(404 if error.errno in _NO_PLACE else 500, said)
+    return Refused(404 if error.errno in _NO_PLACE else 503, said)  # as where memory is short
 
 
 def refused(error: Exception) -> Refused:

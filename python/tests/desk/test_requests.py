@@ -230,8 +230,8 @@ def test_dates_half_letters_and_numbers_that_are_none_are_answered(client, study
     assert told.json()["files"][0]["path"] == "out/caf?.csv"
 
 
-@pytest.mark.parametrize("number, status", [(36, 404), (20, 404), (2, 404), (28, 507), (5, 500)])
-def test_a_name_that_leads_nowhere_is_not_there(number, status):
+@pytest.mark.parametrize("number, status", [(36, 404), (20, 404), (2, 404), (28, 507), (12, 503)])
+def test_what_the_system_refuses_is_no_error_of_the_desk(number, status):
     assert refusal(OSError(number, os.strerror(number), "x" * 300)).status == status
 
 
