@@ -270,7 +270,7 @@ def _warn_of_edges(found: pd.DataFrame) -> None:
     for name, (what, hint) in (("side_blocks", SIDE), ("floor_blocks", FLOOR)):
         there = found[found[name] > 0]
         if len(there):
-            many = "of " + ", ".join(str(it or "as planned") for it in _changes_in(there))
+            many = "of " + ", ".join(str(it or "the study itself") for it in _changes_in(there))
             if len(there) > 3:
                 is_each = len(there) == len(found)
                 of = "of each of these" if is_each else f"in {len(there):,} of these"
