@@ -3,7 +3,7 @@ from __future__ import annotations
 
 import re
 from dataclasses import dataclass
-from typing import Union
+from typing import Any, Union
 
 _GROUPS = re.compile(
     r"([+-]?\d{1,3})(?P<group>[,.'’ \u00a0\u2009\u202f])(\d{3})((?:(?P=group)\d{3})*)"
@@ -60,3 +60,13 @@ def typed_number(text: str) -> _Typed | None:
     if comma:
         return _Typed(float(f"{comma[1]}.{comma[2]}"), "has ',' before the decimals")
     return None
+
+
+def as_number(value: Any) -> Any:
+    """What was typed, as a number where its separators can be read in one way; else as it is.
+
+    >>> [as_number(value) for value in ("0,5", "1.250,5", "9,250", "9250", 7)]
+    [0.5, 1250.5, '9,250', '9250', 7]
+    """
+    found = typed_number(value) if isinstance(value, str) else None
+    return found.value if found and found.other is None else value

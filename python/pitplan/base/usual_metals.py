@@ -76,7 +76,12 @@ _STEADY = (
 
 def metal_of(column: str) -> tuple[str, str, str, float] | None:
     """The usual metal, units and price of a column's name, as CU_PCT, au_gpt, AUPPB, "Ag (g/t)",
-    ley_zn or "gold gpt"."""
+    ley_zn, "gold gpt" or CuT, total copper.
+
+    >>> metal_of("CuT_pct")[0], metal_of("CUT"), metal_of("AU_CUT")[0]
+    ('copper', None, 'gold')
+    """
+    column = re.sub(r"(?<![A-Za-z])CuT(?![A-Za-z])", "Cu", column)
     words = re.split(r"[^a-z0-9]+", column.lower())
     bare = [
         word.removesuffix(next((unit for unit in _UNITS if word.endswith(unit)), ""))

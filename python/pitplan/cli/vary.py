@@ -270,12 +270,11 @@ def _warn_of_edges(found: pd.DataFrame) -> None:
     for name, (what, hint) in (("side_blocks", SIDE), ("floor_blocks", FLOOR)):
         there = found[found[name] > 0]
         if len(there):
-            named = [str(change or "as planned") for change in _changes_in(there)]
-            many = (
-                f"of {len(there):,} of these {len(found):,} what-ifs"
-                if len(there) > 3
-                else "of " + ", ".join(named)
-            )
+            many = "of " + ", ".join(str(it or "the study itself") for it in _changes_in(there))
+            if len(there) > 3:
+                is_each = len(there) == len(found)
+                of = "of each of these" if is_each else f"in {len(there):,} of these"
+                many = f"{of} {len(found):,} what-ifs"
             warn(
                 f"the pit {many} {what.format(f'up to {int(there[name].max()):,} blocks there')}\n  try: {hint}"
             )

@@ -11,11 +11,12 @@ from pathlib import Path
 from typing import Any
 
 from ..base.errors import PlanError
+from ..base.typed_numbers import as_number
 from ..views.export.kinds import KINDS
 from .folder import BUNDLE, DESIGNS, Folder
 
 _Asked = Mapping[str, Any]
-_CHANGE = re.compile(r"(price|recovery|mining|processing|slope|discount|sink)=-?[\d.]+\.\.[\d.]+")
+_VARIED = ("price", "recovery", "mining", "processing", "slope", "discount", "sink")
 _CRS = re.compile(r"(EPSG:\d{4,6})?")
 _CUTS = {"bench": "--bench", "row": "--row", "column": "--column"}
 _AGAIN = ("build", "all")  # runs after which pushbacks and designs are of another model
@@ -35,7 +36,7 @@ class Commands:
         what = asked.get("what")
         try:
             return [[word, self.name, *words] for word, *words in self._asked(what, asked)]
-        except (KeyError, TypeError, ValueError) as error:
+        except (KeyError, TypeError, ValueError, OverflowError) as error:
             raise PlanError(f"{what}: {error} is missing or wrong") from None
 
     def _asked(self, what: Any, asked: _Asked) -> list[_Words]:
@@ -102,13 +103,13 @@ class Commands:
 
 
 def _changes(asked: _Asked) -> _Words:
-    """What-ifs."""
-    changes = list(map(str, asked["changes"]))
-    wrong = [word for word in changes if not _CHANGE.fullmatch(word)]
+    """What-ifs: each a name, and the least and the greatest change."""
+    changes = asked["changes"]
+    wrong = [name for name, *_ in changes if name not in _VARIED]
     if wrong or not changes:
-        said = f"{wrong[0]!r} is no change" if wrong else "nothing is changed"
-        raise PlanError(said, try_this="price=-20..20 or slope=-3..3")
-    return changes
+        said = f"{wrong[0]!r} can't be varied" if wrong else "nothing is changed"
+        raise PlanError(said, try_this=", ".join(_VARIED))
+    return [f"{name}={_number(least)}..{_number(most)}" for name, least, most in changes]
 
 
 def _kinds(asked: _Asked) -> _Words:
@@ -129,8 +130,8 @@ def _flag(key: str, asked: _Asked, option: str = "") -> _Words:
 
 def _numbers(asked: _Asked, *keys: str) -> _Words:
     """Options with a number, where they are asked for."""
-    told = [(f"--{key}".replace("_", "-"), asked[key]) for key in keys if key in asked]
-    return [word for option, value in told for word in (option, _number(value))]
+    told = [(key, asked[key]) for key in keys if asked.get(key) is not None]
+    return [it for key, value in told for it in (f"--{key}".replace("_", "-"), _number(value))]
 
 
 def _factor(asked: _Asked) -> _Words:
@@ -140,9 +141,10 @@ def _factor(asked: _Asked) -> _Words:
 
 def _number(value: Any) -> str:
     """A number as a command line has it."""
+    value = as_number(value)
     is_one = isinstance(value, (int, float)) and not isinstance(value, bool)
     if not is_one or not math.isfinite(value):
-        raise PlanError(f"{value!r} is no number")
+        raise PlanError(f"{value!r} is no number", try_this="digits, and a point before decimals")
     return f"{value:.10g}"
 
 

@@ -7,11 +7,13 @@ import hashlib
 import os
 import re
 import tomllib
+import traceback
 from collections.abc import Iterator
 from contextlib import contextmanager, suppress
 from pathlib import Path
 from typing import Any
 
+from ..base.error_text import errors_told
 from ..base.errors import PlanError
 from ..base.files import FULL
 
@@ -21,6 +23,7 @@ TABLES, DESIGNS = (".csv", ".csv.gz"), (".dxf", ".csv", ".txt")
 _SHOWN = ("out", "designs", "log")  # of a study what may be saved, beside study.toml and bundles
 HOME = Path("log", "desk")  # within a study, what is the desk's own
 BUNDLE = "bundle-"
+_NO_PLACE = (errno.ENOENT, errno.ENOTDIR, errno.EISDIR, errno.ELOOP, errno.ENAMETOOLONG)
 
 
 class Refused(Exception):
@@ -110,9 +113,12 @@ class Folder:
 
     def results(self, study: Path) -> list[dict[str, Any]]:
         """What there is to take away: tables, pictures, files for CAD, designs, bundles."""
-        inside = [path for top in ("out", "designs") for path in sorted((study / top).rglob("*"))]
-        names = [path.relative_to(study).as_posix() for path in inside if path.is_file()]
-        found = [_told_of(study / it, it) for it in names if not re.search(r"(^|/)\.", it)]
+        try:
+            inside = [it for top in ("out", "designs") for it in sorted((study / top).rglob("*"))]
+            names = [path.relative_to(study).as_posix() for path in inside if path.is_file()]
+            found = [_told_of(study / it, it) for it in names if not re.search(r"(^|/)\.", it)]
+        except FileNotFoundError:  # a run has moved it meanwhile
+            return self.results(study)
         bundles = [path for path in sorted(study.glob(f"{BUNDLE}*")) if path.is_dir()]
         return found + [{**_told_of(it, f"{it.name}.zip"), "bytes": None} for it in bundles]
 
@@ -149,7 +155,7 @@ def writing(study: Path) -> Iterator[None]:
 
 def refusal(error: OSError, what: str = "") -> Refused:
     """A disk that is full, or a folder where nothing may be written, in words; `what` isn't done, if not a file alone."""
-    where = Path(str(error.filename or "")).name
+    where = Path(str(error.filename or "")).name[:80]
     if error.errno in FULL:
         undone = what or f"{where} wasn't written"
         said = f"{undone}: {error.strerror}; what was there before is kept"
@@ -158,4 +164,23 @@ def refusal(error: OSError, what: str = "") -> Refused:
     if error.errno in (errno.EACCES, errno.EPERM, errno.EROFS):
         user = os.environ.get("USER", "the desk")
         return Refused(403, said, f"a folder that {user} may write in")
-    return Refused(404 if error.errno == errno.ENOENT else 500, said)
+    return Refused(404 if error.errno in _NO_PLACE else 503, said)  # as where memory is short
+
+
+def refused(error: Exception) -> Refused:
+    """Any error as an answer. Where one that nobody has foreseen came from stands in the desk's own terminal."""
+    match error:
+        case Refused():
+            return error
+        case PlanError():
+            return Refused(422, error.said, errors=errors_told(error))
+        case OSError():
+            return refusal(error)
+        case RecursionError():
+            return Refused(400, "study.toml, or what was sent, is nested too deep")
+        case MemoryError():
+            return Refused(503, "memory was refused", "a machine with more memory")
+    traceback.print_exception(error)
+    is_of_asking = isinstance(error, (ValueError, LookupError, TypeError))
+    said = f"the desk can't do that: {type(error).__name__}: {error}"
+    return Refused(400 if is_of_asking else 500, said)

@@ -22,16 +22,15 @@ from starlette.responses import FileResponse, JSONResponse, Response
 from starlette.routing import Route
 
 from ..base import events
-from ..base.errors import PlanError
 from ..base.files import put_aside, whole_file, write_json
 from ..base.study_lines import lines_of
-from ..base.typed_numbers import typed_number
+from ..base.typed_numbers import as_number
 from ..study import turns
 from ..table.study_keys import KEYS, LISTS, Key
 from . import runs, toml_text
 from .asked import Commands
 from .folder import BUNDLE, DESIGNS, HOME, TABLES, Folder, Refused
-from .folder import etag, refusal, stamp, writing
+from .folder import etag, refusal, refused, stamp, writing
 from .guard import SANDBOX
 from .manual import address, page_of
 from .worker import Worker
@@ -60,7 +59,7 @@ class Desk:
     def routes(self) -> list[Route]:
         """All of them."""
         at = "/api/studies/{study}"
-        run = at + "/runs/{number:int}"
+        run = at + "/runs/{number}"
         table: list[tuple[str, str, _Answer]] = [
             ("GET", "/api/folder", self.home),
             ("PUT", "/api/tables/{name}", self.upload),
@@ -125,9 +124,8 @@ class Desk:
             for name in self.folder.studies()
         ]
         keys = [{**asdict(key), **key.form} for key in KEYS]
-        tables = self.folder.tables()
-        told = {"studies": found, "tables": tables, "keys": keys, "manual": address()}
-        return {"folder": str(self.folder.root), **told}
+        told = {"studies": found, "tables": self.folder.tables(), "manual": address()}
+        return {"folder": str(self.folder.root), "keys": keys, **told}
 
     async def upload(self, request: Request) -> _Told:
         """Takes a file as it comes, into one beside its place; nothing that is there is lost before all of it has come."""
@@ -149,8 +147,6 @@ class Desk:
                     raise Refused(422, kind["errors"][0]["said"], kind["errors"][0]["try"])
             os.chmod(part, 0o664)
             os.replace(part, path)
-        except ClientDisconnect:
-            raise Refused(400, "the upload was cut off") from None
         except OSError as error:
             error.filename = str(path)
             raise
@@ -198,23 +194,22 @@ class Desk:
             self.folder.table_of(study)
         except Refused as refused:
             outside = [{**refused.told["errors"][0], "key": ["model", "table"]}]
-        designs = sorted(it.name for it in (study / "designs").glob("[!.]*"))
-        told = {"name": study.name, "text": text, "values": values, "outside": outside}
-        told["lines"] = lines_of(text)
+        told = {"name": study.name, "text": text, "values": values, "lines": lines_of(text)}
         told |= {"runs": list(map(_shown, runs.of(study))), "files": self.folder.results(study)}
         state = await self.quick("overview", study)
         if "errors" in state:
             raise Refused(503, state["errors"][0]["said"], state["errors"][0]["try"])
-        return {**told, "state": state, "designs": designs, "pulse": pulse}
+        return {**told, "outside": outside, "state": state, "pulse": pulse}
 
     def beat(self, study: Path) -> _Told:
-        """What study.toml, the table and the latest run are now, and who has the study."""
+        """What study.toml, the table, the designs and the latest run are now, and who has the study."""
         found, holder, table = runs.of(study), turns.is_held(study), ""
         with suppress(OSError, Refused):
             table = str(stamp(self.folder.table_of(study) or study / "no table"))
         latest = {key: found[0][key] for key in ("number", "state")} if found else None
         now = {"etag": etag((study / "study.toml").read_bytes()), "table": table, "run": latest}
-        return {**now, "held": str(holder) if holder else None}
+        designs = sorted(it.name for it in (study / "designs").glob("[!.]*"))
+        return {**now, "designs": designs, "held": str(holder) if holder else None}
 
     async def change(self, request: Request) -> _Told:
         """Writes study.toml: some keys, or the whole text. Refused where somebody has changed the same meanwhile."""
@@ -260,7 +255,7 @@ class Desk:
         """A route that has a function of a run answer."""
 
         async def answer(request: Request) -> _Told:
-            return do(_numbered(self.named(request), request.path_params["number"]), request)
+            return do(_numbered(self.named(request), int(request.path_params["number"])), request)
 
         return answer
 
@@ -316,9 +311,7 @@ def _read(key: Key | None, value: Any) -> Any:
     """What was typed, as a number where its key takes one and it can be read in one way."""
     if isinstance(value, list):
         return [_read(key, each) for each in value]
-    is_number = isinstance(value, str) and key is not None and key.kind not in _WORDS
-    found = typed_number(value) if is_number else None
-    return found.value if found and found.other is None else value
+    return as_number(value) if key is not None and key.kind not in _WORDS else value
 
 
 def _changed(before: bytes, changes: Any, study: Path) -> bytes:
@@ -398,37 +391,26 @@ def _answering(do: _Answer) -> _Answer:
             found = await do(request)
             if isinstance(found, bytes):
                 return Response(found, media_type="image/png")
-            return found if isinstance(found, Response) else JSONResponse(_finite(found))
+            return found if isinstance(found, Response) else JSONResponse(_sayable(found))
+        except ClientDisconnect:
+            no = Refused(400, "what was sent broke off")
         except Exception as error:
-            no = _refused(error)
-        return JSONResponse(no.told, no.status)
+            no = refused(error)
+        return JSONResponse(_sayable(no.told), no.status)
 
     return answer
 
 
-def _refused(error: Exception) -> Refused:
-    """What a route has raised, as an answer; what is no planner's doing is raised again."""
-    match error:
-        case Refused():
-            return error
-        case PlanError():
-            return Refused(422, error.said, error.try_this)
-        case RecursionError():
-            return Refused(400, "the desk can't do that: it is nested too deep")
-        case ValueError() | KeyError():
-            return Refused(400, f"the desk can't do that: {error}")
-        case OSError():
-            return refusal(error)
-    raise error
-
-
-def _finite(value: Any) -> Any:
-    """What JSON can say: nothing in place of a number that is none."""
+def _sayable(value: Any) -> Any:
+    """What JSON can say: nothing in place of a number that is none, a date or a strange name as a text."""
     if isinstance(value, dict):
-        return {key: _finite(each) for key, each in value.items()}
+        return {key: _sayable(each) for key, each in value.items()}
     if isinstance(value, (list, tuple)):
-        return [_finite(each) for each in value]
-    return None if isinstance(value, float) and not math.isfinite(value) else value
+        return [_sayable(each) for each in value]
+    if isinstance(value, float):
+        return value if math.isfinite(value) else None
+    is_plain = value is None or isinstance(value, int)
+    return value if is_plain else str(value).encode("utf-8", "replace").decode()
 
 
 async def _own(request: Request) -> Response:

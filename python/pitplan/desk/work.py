@@ -101,7 +101,8 @@ def look(study: Path) -> _Told:
     calls not estimated."""
     table, model = _table_of(study)
     columns, absent = model.get("columns", {}), model.get("absent")
-    names = tuple(sorted(columns.items())) if isinstance(columns, dict) else ()
+    columns = columns.items() if isinstance(columns, dict) else ()
+    names = tuple(sorted(it for it in columns if isinstance(it[1], str)))
     of = stamp(table), names, model.get("encoding")
     found = _looked(*of)
     marks = list(map(str, absent)) if isinstance(absent, list) else found.absent
@@ -125,7 +126,8 @@ def _table_of(study: Path) -> tuple[Path, _Told]:
     parts = parts_of_file(study)
     if parts.table is None:
         raise PlanError("study.toml names no table", key=("model", "table"))
-    return parts.table, parts.document.get("model", {})
+    model = parts.document["model"].items()  # an encoding that is none is told by the check
+    return parts.table, {key: it for key, it in model if key != "encoding" or isinstance(it, str)}
 
 
 @functools.lru_cache(maxsize=1)
@@ -133,7 +135,7 @@ def _lines(table: Any, columns: Any, encoding: str | None, absent: tuple[str, ..
     """A line for each column of a table, made once."""
     found, marks = _looked(table, columns, encoding), numbers_among(absent)
     frame = read_frame(Path(table[0]), found.dialect)
-    is_what = {own: name for name, own in found.names.items()}
+    is_what = {found.region: "region"} | {own: name for name, own in found.names.items()}
     is_what |= dict.fromkeys(found.grades, "grade")
     each = ((name, told_of(frame[name], marks)) for name in map(str, frame.columns))
     return [{"name": name, "is": is_what.get(name, ""), **told} for name, told in each]
@@ -256,10 +258,10 @@ def rose_picture(study: Path) -> bytes:
 
 def ground(study: Path, what: str) -> bytes:
     """The model from above, as PNG."""
-    model = _kept_model(parts_of_file(study))
-    if model is None:
+    model = _kept_model(parts := parts_of_file(study))
+    if model is None or parts.keys is None:
         raise PlanError("the table can't be read yet")
-    return _png(from_above(model, what))
+    return _png(from_above(model, what, Units(**parts.keys.units).length))
 
 
 def _png(figure: Any) -> bytes:

@@ -12,11 +12,9 @@ from importlib import import_module
 from pathlib import Path
 from typing import Any, Union
 
-from ..base.error_text import errors_told
-from ..base.errors import PlanError
 from ..base.machine import whole_memory
 from ..base.within import only_within
-from .folder import refusal
+from .folder import Refused, refused
 
 PATIENCE = 300  # seconds that a question may take
 _SHARE = 0.85  # of the memory of the machine, or of its container, that this process may take
@@ -54,7 +52,7 @@ class Worker:
                 self.end(pool)
                 said = f"that took longer than {PATIENCE} seconds, and was ended"
                 break
-        return {"errors": errors_told(PlanError(said, try_this="the same once more"))}
+        return Refused(503, said, "the same once more").told
 
     def end(self, pool: ProcessPoolExecutor | None = None) -> None:
         """Ends the process, whatever it does."""
@@ -91,15 +89,7 @@ def _end_with_the_desk() -> None:
 def answered(do: _Do, *words: Any) -> Any:
     """What a function gives, or its error as a planner is told it."""
     try:
-        work = f"{__package__}.work"
-        found = getattr(import_module(work), do) if isinstance(do, str) else do
-        return found(*words)
-    except PlanError as error:
-        return {"errors": errors_told(error)}
-    except OSError as error:
-        return refusal(error).told
-    except RecursionError:
-        return {"errors": errors_told(PlanError("study.toml is nested too deep"))}
-    except MemoryError:
-        short = PlanError("memory was refused", try_this="a machine with more memory")
-        return {"errors": errors_told(short)}
+        do = getattr(import_module(f"{__package__}.work"), do) if isinstance(do, str) else do
+        return do(*words)
+    except Exception as error:  # some can't be told from process to process
+        return refused(error).told

@@ -21,6 +21,16 @@ MOST = 1_000_000  # faces and other entities that the blocks of a DXF may bring
 _DEEPEST = 32  # blocks that a block may stand in
 _OWN = re.compile(r"(SHELL|PUSHBACK|YEAR)_\d+_(TOE|CREST)")  # layers of views.export.dxf
 _FAR = 1e12  # how far from 0 a corner may be
+# what ezdxf raises of a file that breaks off or is none
+_BROKEN = (
+    ArithmeticError,
+    AttributeError,
+    LookupError,
+    RuntimeError,
+    StopIteration,
+    TypeError,
+    ValueError,
+)
 
 
 @dataclass(frozen=True)
@@ -81,8 +91,10 @@ def of_dxf(path: Path, layers: Sequence[str] = ()) -> Surface:
                 found = list(_faces_of(entity))
                 entities.take(len(found) if is_within else 0)
                 faces += found
-    except (DXFError, ArithmeticError, AttributeError, LookupError, TypeError, ValueError) as error:
-        raise PlanError(f"can't be read as DXF: {error}", table=path) from None
+    except (DXFError, *_BROKEN) as error:
+        raise PlanError(
+            f"can't be read as DXF: {str(error) or 'it breaks off'}", table=path
+        ) from None
     for layer in layers:
         if layer not in there:
             raise PlanError(f"has no layer {layer!r}{meant(layer, sorted(there))}", table=path)

@@ -280,8 +280,8 @@ def _of_cells(model: Model, economics: Economics) -> Iterator[Strange]:
         if far is not None:
             at = int(np.argmax(grades))
             yield Strange(
-                f"row {_row_of(model, at)} has {top[0]:,.6g} {metal.grade_unit} in {metal.grade}",
-                f"the next largest cell is {top[far + 1]:,.6g}",
+                f"row {_row_of(model, at)} has {rounded(top[0], 6)} {metal.grade_unit} in {metal.grade}",
+                f"the next largest cell is {rounded(top[far + 1], 6)}",
                 f"that cell{_others(far + 1)}: a decimal, or a top cut",
                 ("economics", METALS, metal.name, "grade"),
             )
@@ -348,7 +348,11 @@ def _of_costs(priced: Priced, rock: Bools, economics: Economics) -> Iterator[Str
             is_one = isinstance(said.cost, (int, float))
             yield Strange(
                 f"no block goes to {way.name} at the full price"
-                + (f"; it costs {said.cost:,.6g} {economics.currency} a tonne" if is_one else ""),
+                + (
+                    f"; it costs {rounded(said.cost, 6)} {economics.currency} a tonne"
+                    if is_one
+                    else ""
+                ),
                 "",
                 f"cost, recovery and rocks of {said.said}",
                 said.key("processing"),
@@ -373,7 +377,7 @@ def _of_prices(economics: Economics) -> Iterator[Strange]:
             key: KeyPath = ("economics", METALS, metal.name, "price")
             advice, remedy = _better_price(metal, times)
             yield Strange(
-                f"{metal.name} costs {metal.price:,.6g} {currency} a {metal.price_unit}",
+                f"{metal.name} costs {rounded(metal.price, 6)} {currency} a {metal.price_unit}",
                 f"about {rounded(usual)} is usual",
                 advice,
                 key,
@@ -428,7 +432,7 @@ def _of_selling(economics: Economics) -> Iterator[Strange]:
             yield Strange(
                 (
                     f"selling a {metal.price_unit} of {metal.name} costs {metal.selling:g}, and its"
-                    f" price is {metal.price:,.6g}"
+                    f" price is {rounded(metal.price, 6)}"
                 ),
                 "it is some hundredths of the price",
                 f"selling of {metal.name}, for each {metal.price_unit} as the price is",
@@ -444,7 +448,7 @@ def of_rates(model: Model, priced: Priced, rates: Mapping[str, Any]) -> Iterator
     of_processes = list((rates.get("process_rates") or {}).items())
     if dug and treated and treated > dug * max(priced.ways[0].feed, 1.0):
         yield Strange(
-            f"the mill takes {treated:,.6g} tonnes a year, and {dug:,.6g} are dug",
+            f"the mill takes {rounded(treated, 6)} tonnes a year, and {rounded(dug, 6)} are dug",
             "no more is milled than is dug",
             "mining_rate and mill_rate in [shells], the other way round",
             ("shells", "mill_rate"),
@@ -471,7 +475,7 @@ def of_rates(model: Model, priced: Priced, rates: Mapping[str, Any]) -> Iterator
         if amount and not _SHORTEST <= years <= _LONGEST:
             yield Strange(
                 (
-                    f"at {rate:,.6g} tonnes a year the {what} of the whole model takes"
+                    f"at {rounded(rate, 6)} tonnes a year the {what} of the whole model takes"
                     f" {rounded(years)} years"
                 ),
                 "a mine takes some tens of years",

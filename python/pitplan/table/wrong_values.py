@@ -86,9 +86,10 @@ def _separated(key: Key, value: Any, where: str, at: KeyPath) -> PlanError | Non
     if key.kind not in _SEPARATED or not found or not key.holds(right):
         return None
     name, first = next(iter(found.items()))
+    best = "" if first.other else f": type {first.value!r}"  # of two readings none is better
     of_rock = f" of {name}" if name else ""
     return PlanError(
-        f"{where} {key.name}{of_rock} is {each[name]!r}, which {first.said}: type {first.value!r}",
+        f"{where} {key.name}{of_rock} is {each[name]!r}, which {first.said}{best}",
         try_this=Remedy(
             at, right, first.when, other=other if second and key.holds(other) else None
         ),

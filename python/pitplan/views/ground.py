@@ -13,6 +13,7 @@ from matplotlib.patches import Patch
 
 from ..base.errors import PlanError, meant
 from ..model.model import Model
+from .pictures import PLACES
 
 _GROUND = "ground"
 _MOST_WORDS = 20  # that are named beside the picture
@@ -20,7 +21,7 @@ _LAND = ListedColormap(colormaps["terrain"](np.linspace(0.27, 0.93, 128)))  # wi
 _SHADE = ListedColormap([(0, 0, 0, alpha) for alpha in np.linspace(0, 0.6, 64)])
 
 
-def from_above(model: Model, what: str = _GROUND) -> Figure:
+def from_above(model: Model, what: str = _GROUND, unit: str = "m") -> Figure:
     """Draws a model from above.
 
     Parameters
@@ -29,6 +30,8 @@ def from_above(model: Model, what: str = _GROUND) -> Figure:
     what : str
         `_GROUND`, its elevation; or a column: of numbers the greatest of each column of blocks, of
         words those at the ground.
+    unit : str
+        Of the coordinates.
 
     Raises
     ------
@@ -48,7 +51,9 @@ def from_above(model: Model, what: str = _GROUND) -> Figure:
     axes = figure.subplots()
     if what == _GROUND:
         elevation = np.where(high >= 0, model.grid.world(0, 0, high + 0.5)[2], np.nan)
-        _draw_ground(figure, axes, (east, north), elevation.reshape(nx, ny), model.grid.size)
+        drawn = _draw_ground(axes, (east, north), elevation.reshape(nx, ny), model.grid.size)
+        label = f"elevation of the ground ({unit})"
+        figure.colorbar(drawn, ax=axes, label=label, shrink=0.8, format=PLACES)
     elif pd.api.types.is_numeric_dtype(blocks[what]):
         values = np.full(nx * ny, np.nan)
         np.fmax.at(values, at[rock], blocks[what].to_numpy(float)[rock])
@@ -59,15 +64,16 @@ def from_above(model: Model, what: str = _GROUND) -> Figure:
         here = rock & (iz == high[at])
         _draw_words(axes, (east, north), (at[here], blocks[what][here]), (nx, ny))
     axes.set_aspect("equal")
-    axes.ticklabel_format(useOffset=False, style="plain")
     axes.tick_params(labelsize=8)
     axes.tick_params(axis="x", labelrotation=30)
-    axes.set_xlabel("east")
-    axes.set_ylabel("north")
+    axes.set_xlabel(f"Easting ({unit})")
+    axes.set_ylabel(f"Northing ({unit})")
+    axes.xaxis.set_major_formatter(PLACES)
+    axes.yaxis.set_major_formatter(PLACES)
     return figure
 
 
-def _draw_ground(figure: Figure, axes: Any, corners: Any, high: Any, size: Any) -> None:
+def _draw_ground(axes: Any, corners: Any, high: Any, size: Any) -> Any:
     """The elevation of the ground in colours, with the shade of a sun in the north-west."""
     drawn = axes.pcolormesh(*corners, high, cmap=_LAND, shading="flat")
     solid = np.where(np.isnan(high), np.nanmin(high), high)
@@ -76,7 +82,7 @@ def _draw_ground(figure: Figure, axes: Any, corners: Any, high: Any, size: Any) 
     )
     shade = np.ma.masked_where(np.isnan(high), 1 - light.T)  # type: ignore[no-untyped-call]
     axes.pcolormesh(*corners, shade, cmap=_SHADE, shading="flat")
-    figure.colorbar(drawn, ax=axes, label="elevation of the ground", shrink=0.8)
+    return drawn
 
 
 def _draw_words(axes: Any, corners: Any, found: tuple[Any, Any], shape: tuple[int, int]) -> None:

@@ -5,6 +5,7 @@ import signal
 import subprocess
 import sys
 import time
+import tomllib
 
 import pytest
 
@@ -89,6 +90,18 @@ def test_a_run_does_its_commands_and_leaves_what_they_said(study, tmp_path):
     assert told[-1] == {**told[-1], "status": 0}
     assert (run["folder"] / "study.toml").read_bytes() == (study / "study.toml").read_bytes()
     assert (study / "out" / "pit_by_pit.csv").exists()
+
+
+def test_a_run_reads_nothing_outside_of_the_desks_folder(tmp_path):
+    study = written_study(tmp_path / "in" / "s")
+    text = (study / "study.toml").read_text()
+    table = tomllib.loads(text)["model"]["table"]
+    (study / table).rename(tmp_path / "away.csv")
+    (study / "study.toml").write_text(text.replace(table, "../../away.csv"))
+    runs.start(tmp_path / "in", study, BUILD)
+    run = waited_for(study, "failed", "done")
+    assert run["state"] == "failed"
+    assert "lies outside of" in (run["folder"] / "log").read_text()
 
 
 def test_events_are_told_on_from_where_they_were_read(study, tmp_path):

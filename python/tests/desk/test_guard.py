@@ -271,6 +271,8 @@ def test_json_has_a_limit_and_has_to_be_a_table(desk):
 
 SMUGGLED = (
     {"what": "vary", "changes": ["--workers=9"]},
+    {"what": "vary", "changes": [["--workers", 1, 9]]},
+    {"what": "vary", "changes": [["price", "--workers", 9]]},
     {"what": "vary", "changes": ["/etc"]},
     {"what": "vary", "changes": []},
     {"what": "phases", "factors": ["--help"]},
@@ -324,9 +326,12 @@ def test_what_a_button_runs(root):
     ]
     newer = [{"what": "build", "number": 3, "state": "done", "asked": {}}, *runs]
     assert typed(newer, what="compare", design="d.dxf")[1].startswith("page hill --design")
-    assert typed(what="vary", changes=["price=-20..20"]) == ["vary hill price=-20..20 --factor 1"]
-    by_years = {"what": "vary", "changes": ["discount=-2..2", "sink=-1..1"], "schedule": True}
-    assert typed(**by_years) == ["vary hill discount=-2..2 sink=-1..1 --schedule"]
+    assert typed(what="vary", changes=[["price", -20, 20]]) == [
+        "vary hill price=-20..20 --factor 1"
+    ]
+    changes = [["discount", "-2,5", -0.5], ["sink", -1, 1]]
+    by_years = {"what": "vary", "changes": changes, "schedule": True}
+    assert typed(**by_years) == ["vary hill discount=-2.5..-0.5 sink=-1..1 --schedule"]
     assert typed(what="schedule") == ["schedule hill"]
     assert typed(what="schedule", minutes=2, gap=0.5) == ["schedule hill --gap 0.5 --minutes 2"]
     assert typed(what="export", kinds=["minelib"]) == ["export hill --to minelib"]

@@ -98,6 +98,12 @@ for (let n = walker.nextNode(); n; n = walker.nextNode()) {
   const size = parseFloat(style.fontSize), isLarge = size >= 24 || (size >= 18.66 && style.fontWeight >= 700);
   if (ratio < (isLarge ? 3 : 4.5)) low.add(`${ratio.toFixed(2)} ${style.color} ${n.data.trim().slice(0, 40)}`);
 }
+for (const e of document.querySelectorAll("input[placeholder]")) {
+  const style = getComputedStyle(e, "::placeholder");
+  const [a, b] = [light(parts(style.color).slice(0, 3)), light(back(e))];
+  const ratio = (Math.max(a, b) + 0.05) / (Math.min(a, b) + 0.05);
+  if (ratio < 4.5 || Number(style.opacity) < 1) low.add(`${ratio.toFixed(2)} ${style.color} ${e.placeholder}`);
+}
 return [count, [...low]]
 """
 
@@ -151,6 +157,7 @@ def test_all_of_it_is_done_by_keys(browser, desk, folder):
     tab_to(browser, "build")
     browser.keys(Keys.SPACE)
     browser.sees("build done by", "#main")
+    browser.there("#main .chip.good")
     browser.sees("built in keys")
 
 
@@ -399,6 +406,47 @@ def test_a_number_with_a_separator_is_named_and_put_right_by_a_button(browser, d
     assert "price = 1250.5," in study.read_text()
 
 
+def test_a_study_that_cannot_be_read_hides_no_other_one(browser, desk, folder):
+    shutil.copytree(TOP / "examples" / "hill", folder / "shut")
+    (folder / "shut" / "model" / "manifest.json").mkdir(parents=True)
+    browser.get("about:blank")
+    browser.get(f"{desk.address}/#/")
+    browser.sees("can't be read", "#main .chip.bad")
+    browser.press_on("#main td a", "shut")
+    browser.hears("manifest.json: Is a directory")
+    browser.press_on("#main td a", "hill")
+    browser.sees("5,041 rows", "#main")
+    shutil.rmtree(folder / "shut")
+
+
+def test_no_card_is_empty_while_something_is_wrong(browser, desk, folder):
+    shutil.copytree(folder / "hill", folder / "steep")
+    browser.get(f"{desk.address}/#/steep/slopes")
+    browser.types("i.slopes.angles", "145")
+    browser.sees("from 5 to 89 degrees", "[id='f.slopes.angles'] .fault")
+    browser.sees("Nothing can be said before that is put right", "#main")
+    bare = "return [...document.querySelectorAll('#main .card')].filter(e => e.innerText.trim() === e.querySelector('h2')?.innerText).length"
+    assert browser.script(bare) == 0
+
+
+def test_what_ifs_are_named_and_take_a_decimal_comma(browser, desk):
+    browser.get(f"{desk.address}/#/hill/vary")
+    for words in ("costs of treating", "slope angles", "points: from 8 % to 10 % a year are 2"):
+        browser.sees(words, "#main table")
+    browser.fills("[id='if.price.0']", "-12,5")
+    browser.sees("pitplan vary hill price=-12.5..20 recovery=-5..5 slope=-3..3", "#main")
+    browser.fills("[id='if.price.0']", "9,250")  # which may be either
+    browser.sees("'9,250' is no number; try: digits, and a point before decimals", "#main .typed")
+    browser.fills("[id='if.price.0']", "-20")
+
+
+def test_a_term_that_the_plan_by_years_takes_from_elsewhere_is_shown_in_its_box(browser, desk):
+    shown(browser, desk, "hill/pits/years")
+    usual = "return document.getElementById('i.schedule.discount').placeholder"
+    assert browser.script(usual) == "0.08"
+    assert "0.08" in browser.text("[id='line.shells.discount']")
+
+
 def test_the_manual_is_a_link_where_it_is_there(browser, desk):
     browser.get(f"{desk.address}/#/")
     browser.sees("The manual")
@@ -549,6 +597,7 @@ def test_the_name_of_a_study_is_whole_while_something_runs(browser, desk, folder
 
 def test_a_design_that_breaks_the_slopes_is_marked(browser, desk, folder):
     shutil.copytree(folder / "hill", folder / "broken")
+    browser.get("about:blank")  # what was said of another study stays for half a minute
     browser.get(f"{desk.address}/#/broken/designs")
     browser.gives("#pick", TOP / "examples" / "hill-design.dxf")
     browser.there("#compare:not([disabled])")
@@ -559,4 +608,5 @@ def test_a_design_that_breaks_the_slopes_is_marked(browser, desk, folder):
     browser.sees("done", "#main .chip.warn")
     browser.click("[id='to.history']")
     browser.sees("done", ".runs-of .chip.warn")
-    assert "bad" not in browser.script("return document.querySelector('#say').innerHTML")
+    browser.hears("design: done")
+    assert not browser.text("#say .bad")

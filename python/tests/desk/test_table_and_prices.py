@@ -201,6 +201,12 @@ def test_a_hole_is_told_and_its_keys_are_in_sight(browser, begin):
     begin("".join(row for at, row in enumerate(rows) if at != sorted(highest)[1][1]))
     browser.sees("has no row, with blocks above and below it", "#main")
     assert browser.script("return document.querySelector('#folded.wrong').open")
+    browser.sees(
+        "1 error below: Places without a row", "#main p.look"
+    )  # before anything is scrolled
+    browser.press_on("p.look button", "Places without a row")
+    at = "return document.activeElement.closest('.field')?.id"
+    browser.until(lambda: browser.script(at) == "f.model.missing", "its field")
 
 
 def test_many_holes_are_listed_and_filled_with_their_domain(browser, begin):
@@ -272,9 +278,10 @@ def test_examples_are_listed_before_a_build_and_a_field_says_what_it_is(browser,
     browser.there(".drawn img.ground")
     assert "is being drawn" in browser.script(drawn)  # below a picture that isn't there yet
     browser.click("[id='to.pits']")
-    listed = "Still examples, and not yours: Digging, Treating, Overall slope, "
+    listed = "Still examples, and not yours: Cost of digging, Cost of treating, Overall slope, "
     browser.sees(listed, "#main p.look")
-    browser.sees("Discount, Price of copper", "#main p.look")
+    rates = "Rate of digging, Rate of milling, Discount, Price of copper"
+    browser.sees(rates, "#main p.look")
     browser.sees("= 20,000,000 tonnes a year", "[id='f.shells.mining_rate']")
     browser.script("document.getElementById('i.shells.discount').focus()")
     browser.sees("Discount: a share a year", ".help")

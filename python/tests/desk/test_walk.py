@@ -1,4 +1,5 @@
 """A planner's day at the desk, in real browsers: from a dropped table to saved files. Complaints of a browser are failures."""
+import base64
 import csv
 import os
 import shutil
@@ -140,6 +141,8 @@ def plans(browser, study):
     assert (study / "out" / "compare-hill-design" / "walls.csv").exists()
     browser.click("[id='to.history']")
     browser.sees("pitplan export hill --to dxf,vtu,csv")
+    chips = "return [...document.querySelectorAll('.runs-of .chip')].map(e => e.classList[1])"
+    assert browser.script(chips) == ["warn", "good", "good", "good"]  # of the design, of all else
     assert not (study / "log" / "desk" / "0005-x").exists()
 
 
@@ -163,6 +166,19 @@ def test_a_desk_ends_whatever_is_still_on_its_way(tmp_path):
         desk.process.terminate()
         desk.process.communicate(timeout=60)
     assert not desk.process.returncode
+
+
+def test_it_listens_at_one_address_of_this_machine_and_its_token_is_random(tmp_path):
+    tokens = []
+    for _ in range(2):
+        desk = Desk(tmp_path, PITPLAN_DESK_TOKEN="")
+        socket.create_connection(("127.0.0.1", desk.port)).close()
+        with pytest.raises(ConnectionRefusedError):
+            socket.create_connection(("127.0.0.2", desk.port))
+        tokens.append(desk.told.partition("?token=")[2].split()[0])
+        desk.end()
+    assert len(set(tokens)) == 2
+    assert all(len(base64.urlsafe_b64decode(token)) * 8 >= 192 for token in tokens)
 
 
 SLOW = """#!/bin/sh

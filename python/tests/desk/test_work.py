@@ -580,7 +580,9 @@ def test_a_design_is_looked_at_when_it_comes(desk):
         ("ids.txt", b"H00001\nH00002\n", "ids"),
     ):
         assert desk.put(f"{at}/{name}", content=content).json()["as"] == kind, name
-    assert len(desk.get("/api/studies/designed").json()["designs"]) == 4
+    assert (
+        len(desk.get("/api/studies/designed/pulse").json()["designs"]) == 4
+    )  # others see them, too
 
 
 def test_ids_are_held_against_the_table_before_a_build(desk):

@@ -8,6 +8,7 @@ import pytest
 
 import pitplan as pp
 from mines import COPPER, costs, study_of, table, written_study
+from pitplan.cli.vary import _warn_of_edges as edges_told
 from pitplan.study import edges, pit_by_pit
 from pitplan.plans import vary
 from pitplan.tasks.task import Tasks
@@ -278,6 +279,26 @@ def test_a_study_built_anew_has_no_what_ifs(tmp_path):
     assert len(vary.tasks(study)) == 2
     with pytest.raises(pp.PlanError, match="there is no scenario"):
         vary.scenario(other, "mining+10")
+
+
+@pytest.mark.parametrize(
+    "touching, words",
+    [
+        (
+            2,
+            "the pit of the study itself, price -20% reaches the model's floor (up to 9 blocks there)",
+        ),
+        (4, "the pit in 4 of these 5 what-ifs reaches the model's floor (up to 9 blocks there)"),
+        (5, "the pit of each of these 5 what-ifs reaches the model's floor (up to 9 blocks there)"),
+    ],
+)
+def test_which_what_ifs_reach_the_floor_is_said(capsys, touching, words):
+    changes = [("base", 0.0), ("price", -20.0), ("price", 20.0), ("slope", -3.0), ("slope", 3.0)]
+    found = pd.DataFrame(changes, columns=["what", "by"])
+    found["side_blocks"] = 0
+    found["floor_blocks"] = [9] * touching + [0] * (5 - touching)
+    edges_told(found)
+    assert words in " ".join(capsys.readouterr().err.split())
 
 
 def test_the_command_and_its_chart(tmp_path):

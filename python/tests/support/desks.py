@@ -17,6 +17,7 @@ PATIENCE = int(os.environ.get("DESK_PATIENCE", "600"))  # seconds, on a busy mac
 ASKED = """return performance.getEntriesByType('resource').slice(-60)
     .map(e => `${Math.round(e.startTime)} ms, status ${e.responseStatus}: ${e.name}`).join('\\n')"""
 
+OPENED = "return document.documentElement?.dataset.drawn !== undefined"
 DRAWN = """return !document.querySelector('#main') || document.body.matches('.away, .shut')
     || document.documentElement.dataset.drawn === location.hash"""
 
@@ -118,8 +119,9 @@ class Hands:
     def get(self, address):
         """Opens an address; of the desk's page, until what it names is drawn."""
         self.goes(address)
-        if "#/" in address:
-            self.until(lambda: self.script(DRAWN), f"{address} drawn")
+        is_door = "?token=" in address  # whose page goes on to the desk's own
+        if is_door or "#/" in address:
+            self.until(lambda: self.script(OPENED if is_door else DRAWN), f"{address} drawn")
             self.script("if (document.getElementById('say')) { %s }" % KEEPS)
 
     def until(self, ask, what):

@@ -12,7 +12,6 @@ const opened = study => ({ study, look: null, check: null, rose: null, events: {
   cells: {}, edits: null, changed: new Set() });
 /** All that is known of the folder and of the open study. */
 export const D = { home: null, naming: null, dropped: null, ...opened(null) };
-/** @param {string} id @returns {any} */
 export const byId = id => document.getElementById(id);
 const pause = ms => new Promise(done => { setTimeout(done, ms); });
 /** @returns {string} the name of who sits here */
@@ -55,7 +54,7 @@ export async function ask(method, path, body, { quiet = false, raw = false } = {
   const isJson = answer.headers.get("content-type")?.startsWith("application/json");
   const told = isJson ? await answer.json() : { errors: [{ said: await answer.text() }] };
   if (!answer.ok && !quiet) say(told.errors?.[0]?.said ?? answer.statusText, "bad");
-  return Object.assign(told, { ok: answer.ok, status: answer.status });
+  return Object.assign(told, { ok: answer.ok }); // a run has a status of its own
 }
 
 /** Asks for something; what is refused is shown where it belongs. @param {string} path */
@@ -204,7 +203,7 @@ async function follow(run) {
 
 /** Looks at what others do: in other windows, in an editor, in a terminal. @param {any} was */
 async function pulse(was) {
-  const { ok, status, errors, ...beat } = await look(api("pulse"));
+  const { ok, errors, ...beat } = await look(api("pulse"));
   if (!ok || D.study !== was || root.pending > 0 || (same(beat, was.pulse) && !isUnread)) return;
   const of = { etag: "study.toml", table: "the table" };
   const others = Object.keys(of).filter(key => beat[key] !== was.pulse[key]);
@@ -234,7 +233,7 @@ function top() {
   const run = going();
   like(byId("now"), nodes([
     h("h1", { className: D.study ? "" : "quiet" }, D.study?.name ?? D.home?.folder ?? ""),
-    D.study?.state && h("span", { id: "state" }, chip(...D.study.state.said)),
+    !run && D.study?.state && h("span", { id: "state" }, chip(...D.study.state.said)),
     run && h("div", { id: "running" }, h("code", run.far.command),
       h("span", `${run.far.what}, ${number(run.seconds)} s`), bar(run.far),
       button("Stop", () => ask("DELETE", api("runs", run.number)),
@@ -255,7 +254,7 @@ function nav(isStudy) {
 }
 
 /** Shows the field of a key. @param {string} section @param {string} key */
-async function toField(section, key) {
+export async function toField(section, key) {
   const id = `f.${section}.${key}`;
   if (!byId(id)) location.hash = link(D.study.name, placeOf([section]));
   await go();

@@ -74,6 +74,9 @@ export const when = seconds => new Date(seconds * 1000)
 /** @param {...any} parts @returns {string} a path */
 export const at = (...parts) => "/" + parts.flatMap(p => String(p).split("/"))
   .map(encodeURIComponent).join("/");
+export const word = text => text.trim() || null;
+/** @param {string} text @returns {any} the number that was typed; else its words, or null */
+export const value = text => (Number.isNaN(+text) ? text.trim() : word(text) && +text);
 export const same = (a, b) => JSON.stringify(a) === JSON.stringify(b);
 /** @param {any[]} list @param {any} value @param {boolean} is @returns {any[]} with it, or not */
 export const having = (list, value, is) => [...list.filter(each => each !== value),

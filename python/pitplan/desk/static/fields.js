@@ -1,7 +1,7 @@
 // Fields, made from the description of the keys of study.toml: most by the schema of their kind.
 import { amounts, box, button, choice, counted, entry, free, h, having, labelled, look, number,
-  same, small, tick } from "./dom.js";
-import { D, api, ask, byId, change, faults, here, keep, link, placeOf, stepped,
+  same, small, tick, value, word } from "./dom.js";
+import { D, api, ask, byId, change, faults, here, keep, link, placeOf, stepped, toField,
   valueOf } from "./desk.js";
 import { labelOf } from "./screens.js";
 
@@ -9,7 +9,6 @@ import { labelOf } from "./screens.js";
  *   start: any, default: any, choices: string[]}} Key as study_keys.py has it */
 const placed = path => path.map((step, i) => (i === 2 && Array.isArray(valueOf(path.slice(0, 2)))
   ? listNow(path[1]).findIndex((each, n) => [each.name, n].includes(step)) : step));
-/** @param {any[]} path @returns {string} */
 const idOf = path => `i.${path.join(".")}`;
 const columns = () => (D.look?.columns ?? []).map(c => c.name);
 const rocks = () => D.look?.rocks ?? [];
@@ -17,8 +16,6 @@ const listNow = name => valueOf(["economics", name]) ?? [];
 const keysIn = section => D.home.keys.filter(k => k.section === section);
 const keyOf = (section, name) => keysIn(section).find(k => k.name === name);
 const isTable = v => typeof v === "object" && v !== null && !Array.isArray(v);
-const word = text => text.trim() || null;
-const value = text => (Number.isNaN(Number(text)) ? text.trim() : word(text) && Number(text));
 /** Its unit, and before it a large number as it is read. @param {Key} k @param {any} now */
 const unitOf = (k, now) => [now].flat().filter(n => n >= 1e4).map(n => `= ${number(n)} `).join("")
   + k.unit.replace("{currency}", valueOf(["economics", "currency"]) ?? "$");
@@ -32,7 +29,8 @@ function input(path, key, { width, list, shown = valueOf(path), read = value } =
   const isOwn = path.at(-1) === key.name; // and not one of several
   const step = Number.isInteger(path.at(-1)) ? path.at(-1) + 1 : "";
   return box(valueOf(path) ?? null, { id: idOf(path), className: `w${width ?? (isOwn ? 7 : 5)}`,
-    list, value: shown ?? "", placeholder: isOwn && typeof key.default !== "object" && key.default,
+    list, value: shown ?? "", placeholder: isOwn && [key.default, key.section === "schedule"
+      && valueOf(["shells", key.name])].find(usual => /number|string/.test(typeof usual)),
     "aria-label": (isOwn || step) && `${key.label} ${step}`, autocomplete: "off",
     title: key.section !== path[0] && `${key.label}: ${key.help}` },
   read, (now, was) => set(path, now, was));
@@ -337,15 +335,17 @@ function field(k) {
 /** @param {string} section @param {(name: string) => boolean} isOne @returns {any[]} its fields */
 export const fields = (section, isOne = () => true) => keysIn(section)
   .filter(k => isOne(k.name)).map(field);
-export const datalist = () => h("datalist", { id: "columns" },
-  columns().map(name => h("option", { value: name })));
 
-/** What is wrong here and has no field, and how much is wrong on other screens. */
+/** What is wrong here and has no field, where what has one stands, and what is wrong elsewhere. */
 export function banner() {
-  const isElsewhere = f => f.key?.length && placeOf(f.key) !== here();
-  const places = faults().filter(isElsewhere).map(f => placeOf(f.key));
-  const count = place => counted(places.filter(other => other === place).length, "error");
-  return h("div", faults().filter(f => !isElsewhere(f) && !keyOf(...f.key ?? [])).map(faultBox),
-    [...new Set(places)].map(place => look(`${count(place)} on `,
-      h("a", { href: link(D.study.name, place) }, labelOf(place)))));
+  const isHere = f => placeOf(f.key) === here();
+  const isHomeless = f => !f.key?.length || (isHere(f) && !keyOf(...f.key));
+  const rest = faults().filter(f => !isHomeless(f));
+  const own = rest.find(isHere)?.key;
+  const told = (place, at, all) => all.indexOf(place) === at && look(
+    counted(all.filter(other => other === place).length, "error"), place === here()
+      ? [" below: ", small(keyOf(...own).label, () => toField(...own))]
+      : [" on ", h("a", { href: link(D.study.name, place) }, labelOf(place))]);
+  return h("div", h("datalist", { id: "columns" }, columns().map(value => h("option", { value }))),
+    faults().filter(isHomeless).map(faultBox), rest.map(f => placeOf(f.key)).map(told));
 }

@@ -22,9 +22,6 @@ export const boxes = (own, all) => amounts(Object.entries(all).map(([key, told])
   return labelled(key, label, Array.isArray(how) ? choice(key, how, own[key], keep(own, key, read))
     : entry(key, own[key], keep(own, key, read), { className: "w5", ...how }));
 }));
-/** @param {Object<string, string>} own @returns {Object<string, number>} those that were typed */
-export const numbersIn = own => Object.fromEntries(Object.entries(own)
-  .filter(([, text]) => text !== "").map(([key, text]) => [key, Number(text)]));
 
 const by = { schedule: false };
 /** @param {string} words @returns {any} a box to tick, where the study has a plan by years */

@@ -1,15 +1,14 @@
 // The screens: each draws itself from what is known.
 import { amounts, at, button, card, chip, choice, entry, h, having, labelled, look, looks, number,
-  size, small, table, tick, tip, when } from "./dom.js";
+  size, small, table, tick, tip, value, when } from "./dom.js";
 import { D, agreed, api, ask, byId, draw, faults, file, go, keep, link, queue, say,
   tab } from "./desk.js";
-import { CALLED, banner, datalist, examples, faultBox, fields, mend, set,
-  unused } from "./fields.js";
-import { before, boxes, byYears, chipOf, framed, linesOf, logOf, nameOf, numbersIn, pictures,
-  runner, runsOf, years } from "./runs.js";
+import { CALLED, banner, examples, faultBox, fields, mend, set, unused } from "./fields.js";
+import { before, boxes, byYears, chipOf, framed, linesOf, logOf, nameOf, pictures, runner, runsOf,
+  years } from "./runs.js";
 
 /** A box to tick for a value of a list. @param {any} one @param {any} own @param {string} key */
-const oneOf = (id, one, own, key) => tick(id, one, own[key].includes(one),
+const oneOf = (id, one, own, key, label = one) => tick(id, label, own[key].includes(one),
   keep(own, key, is => having(own[key], one, is)));
 
 /** Takes a file to the server. @param {File} dropped @param {string} path
@@ -31,7 +30,7 @@ function dropPlace(words, ends, take) {
   };
   const failed = D.dropped;
   return [h("label.drop", { ondragover: mark(true), ondragleave: mark(false), ondrop: mark(false) },
-    h("b", words), h("span", `or choose one: ${ends}`),
+    h("b", words), h("span", `or choose one: ${ends.replaceAll(",", ", ")}`),
     h("input", { type: "file", id: "pick", accept: ends, "aria-label": words, onchange })),
   failed && [failed.errors.map(faultBox), failed.exists && button("Put it in its place",
     failed.again, { id: "over" })]];
@@ -69,9 +68,9 @@ function naming() {
 
 const copy = name => ask("POST", "/api/studies", { copy: name }).then(go);
 export function home() {
-  const studies = D.home.studies.map(s => [h("a", { href: link(s.name) }, s.name), chip(...s.said),
-    s.blocks ? number(s.blocks) : "", s.pit ? number(s.pit) : "",
-    s.worth ? `${number(s.worth / 1e6, 1)} million ${s.currency}` : "", when(s.when),
+  const studies = D.home.studies.map(s => [h("a", { href: link(s.name) }, s.name),
+    chip(...s.said ?? ["bad", "can't be read", s.errors[0].said]), number(s.blocks), number(s.pit),
+    s.worth ? `${number(s.worth / 1e6, 1)} million ${s.currency}` : "", s.when && when(s.when),
     small("copy", () => copy(s.name), `copy ${s.name}`)]);
   const tables = D.home.tables.map(t => [t.path, size(t.bytes), when(t.when),
     small("begin a study", () => begin({ table: t.path })),
@@ -104,9 +103,9 @@ function tableScreen() {
     ${check.shape.join(" x ")}.`;
   const notes = [...unused(), ...(seen?.notes ?? []).map(n => h("li.look", n)),
     ...(check?.notes ?? []).filter(n => !n.startsWith("columns:")).map(n => h("li", n))];
-  return [datalist(), banner(), h("div.two",
+  return [banner(), h("div.two",
     h("div", card("The table", seen?.rows ? h("p", h("b", number(seen.rows)), " rows. ", blocks)
-      : tip(seen ? "" : "is looked at ..."), looks(notes), fields("model", n => n === "table")),
+      : tip(seen ? LATER : "is looked at ..."), looks(notes), fields("model", n => n === "table")),
     card("What is what", fields("model", n => MODEL.includes(n)), seen?.differs?.length > 0 && look(
       "The table looks otherwise: ", seen.differs.map(([key, found]) => small(
         `${key} = ${JSON.stringify(found)}`, () => set(["model", key], found)))),
@@ -127,18 +126,18 @@ const columnsOf = ({ columns, marks }) => card("Columns",
     "no number", "words"], columns.map(c => [c.name, h("b", c.is), ...c.told]),
   { words: 2, className: "columns" }));
 
+const LATER = "Nothing can be said before that is put right.";
 const COSTS = ["mining", "processing", "processes"];
 function money() {
   const { tonnage: t, looks: all = [], forbidden, blocks } = D.check ?? {};
   const isWrong = faults().length > 0;
   const isOther = name => !["metals", ...COSTS].includes(name);
-  return [datalist(), banner(), card("In the ground",
+  return [banner(), card("In the ground",
     t && [tip(t.title), table(t.names, t.rows, { className: isWrong ? "old" : "sums" })],
     forbidden !== undefined && tip(number(forbidden), " of ", number(blocks),
       " blocks may not be dug."),
     looks([...unused(), ...all.map(l => h("li.look", l.said, mend(l.remedy)))])
-      || tip(isWrong ? "Nothing can be said before that is put right."
-        : t ? "Nothing looks wrong." : "is worked out ...")),
+      || tip(isWrong ? LATER : t ? "Nothing looks wrong." : "is worked out ...")),
   card("Metals", fields("economics", n => n === "metals")),
   card("Costs", fields("economics", n => COSTS.includes(n))),
   card("Mill, and what may not be dug", fields("economics", isOther))];
@@ -156,32 +155,31 @@ function walls({ names, rows, said, looks: all }) {
 }
 
 const slopes = () => [banner(), card("What is asked for", fields("slopes")),
-  D.rose?.rows ? walls(D.rose) : card("Walls by bearing", tip(D.rose ? "" : "are looked for ...")),
+  D.rose?.rows ? walls(D.rose) : card("Walls by bearing", tip(D.rose ? LATER : "is drawn ...")),
   card("The same as a table and a picture", runner("slopes", "Write them", { what: "slopes" })),
   runsOf("slopes")];
 
 const asks = { certificates: false };
 function build() {
   const factors = D.check?.factors ?? [];
-  const more = asks.certificates ? asks : {};
   const { old } = D.study.state;
   return [banner(), card("Series of pits", fields("shells"),
     factors.length > 0 && tip(`${factors.length} pits, at `, factors.map(f => f / 1000).join(", "),
       " of the price. Rates are for the discounted cases alone.")), card("Run", old && look(old),
-    examples(), runner("all", "Build, and find the pits", { what: "all", ...more }, { main: true }),
+    examples(), runner("all", "Build, and find the pits", { what: "all", ...asks }, { main: true }),
     runner("build", "Build", { what: "build" }),
-    runner("shells", "Find the pits", { what: "shells", ...more }, { needs: true }),
+    runner("shells", "Find the pits", { what: "shells", ...asks }, { needs: true }),
     boxes(asks, { certificates: "with certificates, for an auditor: slower" })),
   runsOf("build", "shells", "all")];
 }
 
-const ends = { gap: "", minutes: "", mining_width: "" };
+const ends = { gap: null, minutes: null, mining_width: null };
 const plan = () => [banner(), card("Terms of the plan", fields("schedule")),
   needed() || card("Run", boxes(ends, {
-  gap: ["end within so many percent of the bound", { placeholder: "0.1" }],
-  minutes: ["or after so many minutes", { placeholder: "30" }],
-  mining_width: ["least width for machines", {}] }),
-runner("schedule", "Find a plan by years", { what: "schedule", ...numbersIn(ends) },
+  gap: ["end within so many percent of the bound", { placeholder: "0.1" }, value],
+  minutes: ["or after so many minutes", { placeholder: "30" }, value],
+  mining_width: ["least width for machines", {}, value] }),
+runner("schedule", "Find a plan by years", { what: "schedule", ...ends },
   { needs: true, main: true })),
 runsOf("schedule"), framed("out/schedule.html", "the plan by years in three dimensions"),
 pictures(f => /^out\/schedule[^/]*\.png$/.test(f.path))];
@@ -200,25 +198,25 @@ const cut = { cut: "bench", at: null, colour: "shell" }; // at an elevation, or 
 const CUTS = { bench: "the bench at elevation", row: "along row", column: "along column" };
 function cuts() {
   const isOne = f => f.path.endsWith(".png") && !f.path.startsWith("out/older/");
-  const benches = D.check?.benches ?? [];
-  const middle = cut.cut === "bench" && benches[Math.floor(benches.length / 2)];
-  const asked = { ...cut, at: cut.at ?? (middle || 0) };
+  const benches = (cut.cut === "bench" && D.check?.benches) || [];
+  const asked = { ...cut, at: cut.at ?? benches.at(benches.length / 2) ?? 0 };
   return [before(isOne), card("A plan or a section", boxes(cut, {
     cut: ["of", Object.entries(CUTS), way => { cut.at = null; return way; }],
-    at: ["at", { value: asked.at }, text => (text === "" ? null : Number(text))],
+    at: ["at", { value: asked.at }, value],
     colour: ["coloured by", ["shell", "value", ...(D.look?.columns ?? []).map(c => c.name)]] }),
   runner("draw", "Draw", { what: "plot", ...asked }, { needs: true })), runsOf("plot").slice(0, 1),
   pictures(isOne) || tip("Pictures are here once the pits are found.")];
 }
 
 const out = { kinds: ["dxf", "vtu", "csv"], crs: "", corners: false };
-const KINDS = ["dxf", "vtu", "csv", "gpkg", "minelib"];
+const KINDS = { dxf: "CAD (dxf)", vtu: "ParaView (vtu)", csv: "spreadsheets (csv)",
+  gpkg: "GIS (gpkg)", minelib: "other optimisers (minelib)" };
 function files() {
   const rows = D.study.files.map(f => [f.path, size(f.bytes), when(f.when), h("a", {
     href: file(f.path, "?save=1"), download: "", "aria-label": `save ${f.path}` }, "save")]);
   return [before(f => f.path === "out/pit_by_pit.csv"),
-    card("For CAD, ParaView, GIS, spreadsheets, and other optimisers (minelib)",
-      amounts(KINDS.map(kind => oneOf(`kind.${kind}`, kind, out, "kinds")), boxes(out, {
+    card("Files for other programs", amounts(Object.entries(KINDS).map(([kind, label]) => oneOf(
+      `kind.${kind}`, kind, out, "kinds", label)), boxes(out, {
         crs: ["coordinate system", { className: "w9", placeholder: "EPSG:32719" }],
         corners: "cut corners" }), byYears("the mine at the end of each year, in place of pits")),
       runner("write", "Write", { what: "export", ...out, ...years() }, { needs: true }),
@@ -237,24 +235,24 @@ const pits = (part = "run") => [h("div.tabs", Object.entries(PARTS).map(([key, [
 const needed = () => (!D.study.state.there || D.study.state.old) && card(null, tip(
   "This needs proved pits: ", h("a", { href: link(D.study.name, "pits") },
     "build, and find the pits"), "."));
-const wanted = { factors: [], width: "" };
+const wanted = { factors: [], width: null };
 function pushbacks() {
   const factors = [...wanted.factors].sort((a, b) => a - b);
   const marks = (D.study.state.factors ?? []).map(f => oneOf(`phase.${f}`, f, wanted, "factors"));
   return [needed() || card("Pits that end a pushback, by their factor",
     h("div.grid.narrow", marks), boxes(wanted, { width: [
-      "least width for machines, in the unit of the coordinates", {}] }),
-    runner("cut", "Cut", { what: "phases", ...numbersIn({ mining_width: wanted.width }), factors },
+      "least width for machines, in the unit of the coordinates", {}, value] }),
+    runner("cut", "Cut", { what: "phases", mining_width: wanted.width, factors },
       { needs: true })), runsOf("phases")];
 }
 
 const design = { design: "", as: "surface", factor: 1 };
 const dropped = it => send(it, api("designs", it.name), told => {
   Object.assign(design, { design: it.name, as: told.as ?? "surface" });
-  if (!D.study.designs.includes(it.name)) D.study.designs.push(it.name);
+  if (!D.study.pulse.designs.includes(it.name)) D.study.pulse.designs.push(it.name);
 });
 function designs() {
-  const all = D.study.designs;
+  const all = D.study.pulse.designs;
   if (!all.includes(design.design)) design.design = all[0] ?? "";
   const kinds = [["surface", "a surface: faces, or points x, y, z"], ["ids", "ids of blocks"]];
   return [dropPlace("Drop a designed pit here", ".dxf,.csv,.txt", dropped),
@@ -265,21 +263,24 @@ function designs() {
     runsOf("compare"), pictures(f => /^out\/compare-[^/]*\/.*\.png$/.test(f.path))];
 }
 
-const IFS = { price: [-20, 20, "%"], recovery: [-5, 5, "%"], mining: [-10, 10, "%"],
-  processing: [-10, 10, "%"], slope: [-3, 3, "degrees"], discount: [-2, 2, "points"],
-  sink: [-1, 1, "benches a year"] };
+const POINTS = "points: from 8 % to 10 % a year are 2";
+const IFS = { price: [-20, 20, "percent", "prices"], recovery: [-5, 5, "percent", "recoveries"],
+  mining: [-10, 10, "percent", "costs of digging"], slope: [-3, 3, "degrees", "slope angles"],
+  processing: [-10, 10, "percent", "costs of treating"], discount: [-2, 2, POINTS, "discount"],
+  sink: [-1, 1, "benches a year", "how fast a pushback sinks"] };
 const chosen = { names: ["price", "recovery", "slope"] };
 function whatIf() {
   const { schedule, risk } = D.study.state;
-  const box = (name, i) => entry(`if.${name}.${i}`, IFS[name][i], keep(IFS[name], i, Number),
-    { className: "w5", "aria-label": `${name} ${i ? "to" : "from"}` });
+  const box = (name, i) => entry(`if.${name}.${i}`, IFS[name][i], keep(IFS[name], i, value),
+    { className: "w5", "aria-label": `${IFS[name][3]} ${i ? "to" : "from"}` });
   const names = Object.keys(IFS).filter(name => name !== "sink" || years().schedule);
-  const rows = names.map(name => [oneOf(`if.${name}`, name, chosen, "names"), box(name, 0),
-    box(name, 1), IFS[name][2]]);
+  const rows = names.map(name => [oneOf(`if.${name}`, name, chosen, "names", IFS[name][3]),
+    box(name, 0), box(name, 1), IFS[name][2]]);
   const changes = names.filter(name => chosen.names.includes(name))
-    .map(name => `${name}=${IFS[name][0]}..${IFS[name][1]}`);
+    .map(name => [name, ...IFS[name].slice(0, 2)]);
   const label = `Find the ${years().schedule ? "plans" : "pits"} of these`;
-  return [needed() || [card("One thing changed at a time", table(["", "from", "to", ""], rows),
+  return [needed() || [card("One thing changed at a time",
+    table(["", "from", "to", ""], rows, { words: 4 }),
     byYears("a plan by years for each, in place of a pit"),
     runner("vary", label, { what: "vary", changes, ...years() }, { needs: true })),
   schedule && risk && card("The plan by years under each realisation",
