@@ -33,10 +33,10 @@ placed_best v pairs few prices kept k marks pit i part held closed are best =
       less = less;
       part = part;
       best = best_by_fewer (length kept) (has_pair few) (has_pair less) (mine_among few prices kept k).worth (holds_of pit)
-      (λ b p t. rests_of_pair less b p (all.held b p (held b p (pair_of_rests few b p t))))
-      (λ b p t k.
-      let r = all.only b p (pair_of_rests less b p t) in
-      let known = i.known b p r in
-      sym (are p known.1) ∙ stays_in marks b p (closed b p r) (are b known.0 ∙ k))
-      best;
+          (λ b p t. rests_of_pair less b p (all.held b p (held b p (pair_of_rests few b p t))))
+          (λ b p t k.
+          let r = all.only b p (pair_of_rests less b p t) in
+          let known = i.known b p r in
+          sym (are p known.1) ∙ stays_in marks b p (closed b p r) (are b known.0 ∙ k))
+          best;
     }
