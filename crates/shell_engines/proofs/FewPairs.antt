@@ -1,8 +1,8 @@
 -- A pit that is the best one with some of the pairs is the best one with all, where it is closed under all.
-use Rattle.fixed_worth.proofs.Common.{◌≡◌, ◌∙◌, ℕ, ◌<◌, ℤ, Bool, true, false, ◌&&◌, not, IsTrue, Contains, List, length, sym, subst, ap, arith, common_steps}
+use Rattle.fixed_worth.proofs.Common.{◌≡◌, ◌∙◌, ℕ, ◌<◌, ℤ, Bool, true, false, IsTrue, Contains, List, length, sym, arith, common_steps}
 use Rattle.prec_file.specs.Rests.{has_pair}
 use Rattle.prec_file.proofs.Pairs.{rests_of_pair, pair_of_rests}
-use Rattle.closure_net.specs.Prelude.{Mine, IsBest, IsPit, holds_of}
+use Rattle.closure_net.specs.Prelude.{IsBest, IsPit, holds_of}
 use Rattle.places.specs.Prelude.{PrecedenceView, IsPrecedence, implied}
 use Rattle.places.proofs.ImpliedPairs.{implied_is}
 use Rattle.design_value.specs.Prelude.{leads_out, marked_in}
@@ -33,10 +33,10 @@ placed_best v pairs few prices kept k marks pit i part held closed are best =
       less = less;
       part = part;
       best = best_by_fewer (length kept) (has_pair few) (has_pair less) (mine_among few prices kept k).worth (holds_of pit)
-      (λ b p t. rests_of_pair less b p (all.held b p (held b p (pair_of_rests few b p t))))
-      (λ b p t k.
-      let r = all.only b p (pair_of_rests less b p t) in
-      let known = i.known b p r in
-      sym (are p known.1) ∙ stays_in marks b p (closed b p r) (are b known.0 ∙ k))
-      best;
+          (λ b p t. rests_of_pair less b p (all.held b p (held b p (pair_of_rests few b p t))))
+          (λ b p t k.
+          let r = all.only b p (pair_of_rests less b p t) in
+          let known = i.known b p r in
+          sym (are p known.1) ∙ stays_in marks b p (closed b p r) (are b known.0 ∙ k))
+          best;
     }

@@ -143,12 +143,17 @@ fn draft_among(
     // proof: there are few blocks
     let blocks = Precedence::len(among);
     let worths = worths_among(alloc, prices, kept, factor)?;
-    let Grown { branches, pit } =
-        match grow_by_places(alloc, among, worths.as_slice(), turns, &Silent) {
-            Ok(grown) => grown,
-            Err(PseudoflowFault::NoMemory) => return Err(AllocError),
-            Err(_) => return Ok(None),
-        };
+    let Grown { branches, pit } = match grow_by_places(
+        alloc,
+        among,
+        worths.as_slice(),
+        turns,
+        &Silent,
+    ) {
+        Ok(grown) => grown,
+        Err(PseudoflowFault::NoMemory) => return Err(AllocError),
+        Err(_) => return Ok(None),
+    };
     let Some(few) = few_rests(alloc, &branches, blocks) else {
         return Ok(None);
     };
