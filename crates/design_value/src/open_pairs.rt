@@ -70,11 +70,7 @@ fn leads_out_of(marks: &[bool], b: u32, p: u32) -> bool
 }
 
 // Takes in pairs of known blocks, which are the next ones.
-fn pass_row(
-    leading: &mut OpenPairs,
-    marks: &[bool],
-    row: &[(u32, u32)],
-) -> Result<(), AllocError>
+fn pass_row(leading: &mut OpenPairs, marks: &[bool], row: &[(u32, u32)]) -> Result<(), AllocError>
     requires known { All (IsKnown (length marks.now)) row.now }
     requires room { leading.old.count + length row.now ≤ 2 ^ 37 }
     ensures { OnOk result ((ps : List (ℕ × ℕ))

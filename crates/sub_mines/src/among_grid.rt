@@ -84,9 +84,6 @@ impl<'a> Precedence for AmongGrid<'a> {
     fn has(&self, b: u32, p: u32) -> bool {
         // proof: a grid has few blocks
         let _blocks = Precedence::len(self.grid);
-        p < self.kept.len() as u32
-            && self
-                .grid
-                .has(self.kept[b as usize], self.kept[p as usize])
+        p < self.kept.len() as u32 && self.grid.has(self.kept[b as usize], self.kept[p as usize])
     }
 }

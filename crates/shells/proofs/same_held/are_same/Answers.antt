@@ -13,8 +13,7 @@ returns-then-all_held c =
     let listed = c.args.list.now.pairs in
     let same : (b p : ℕ) → v.rests b p ≡ has_pair r.pairs b p = λ b p. c.blocks-blocks.ensures.same b p ∙ ap (λ (x : RestsView). has_pair x.pairs b p) c.as_ref-held.ensures in
     let own = c.len-list.ensures.all in
-    let all = c.len-pairs.ensures.all in
-    (
+    let all = c.len-pairs.ensures.all in (
       λ t. one_listing listed listed r.pairs (own_pairs listed own.rising own.apart) (record {
         rising = all.rising;
         held = λ q k d. pair_of_rests r.pairs q.0 q.1 (subst IsTrue (same q.0 q.1) (c.all_held.ensures.0 c.if-all_held.true q.0 q.1 k));
