@@ -2,12 +2,15 @@
 //! shells: which pits they take, and the shell of each block.
 
 use crate::pits_and_flows::same;
+use blocks_file::read_blocks;
 use check_pit::{Accepted, Price, check};
 use closure_net::{Carried, Flow, Net, Pit};
 use fixed_worth::Micros;
+use held_pairs::{HeldPairs, held_by_region};
 use ordered_group::WorthSize;
-use prec_file::Rests;
+use prec_file::{Rests, read_predecessors};
 use shells::{Factor, Prices, PricesFault, Series, SeriesFault, Way};
+use slope::Up;
 use std::alloc::Global;
 use std::fmt::Display;
 use std::process::Abort;
@@ -67,8 +70,28 @@ fn rests(rt: &impl Abort, alloc: Global) -> Rests {
         .expect(rt, "pairs")
 }
 
+// The same pairs, held by a list.
+fn listed(rt: &impl Abort, alloc: Global) -> HeldPairs {
+    let text = Vec::from_slice(alloc, b"0 1 1\n").expect(rt, "memory");
+    let list = read_predecessors(alloc, text, 3).ok().expect(rt, "pairs");
+    HeldPairs::of_list(list)
+}
+
+// The same pairs, by places: the second block lies above the first.
+fn placed(rt: &impl Abort, alloc: Global) -> HeldPairs {
+    let model = read_blocks(alloc, b"0 0 0 0\n1 0 0 1\n2 5 0 0\n", &[])
+        .ok()
+        .expect(rt, "blocks");
+    let mut slopes: Vec<Vec<(i32, i32, i32)>> = Vec::new(alloc);
+    let above = Vec::from_slice(alloc, &[(0, 0, 1)]).expect(rt, "memory");
+    slopes.push(above).expect(rt, "memory");
+    held_by_region(alloc, &model, &slopes, Up::PlusZ)
+        .ok()
+        .expect(rt, "slopes")
+}
+
 pub fn opened(rt: &impl Abort, alloc: Global, prices: Prices) -> Series {
-    Series::open(alloc, rests(rt, alloc), prices).expect(rt, "series")
+    Series::open(alloc, listed(rt, alloc), prices).expect(rt, "series")
 }
 
 fn factor_of(rt: &impl Abort, thousandths: u32) -> Factor {
@@ -193,11 +216,10 @@ fn has_shells(series: &Series, shells: &[Option<u32>]) -> bool {
     true
 }
 
-#[test]
-fn each_block_has_the_lowest_factor_that_digs_it(rt: HostRuntime) {
-    let alloc = rt.alloc();
-    let prices = prices(&rt, alloc, &REVENUE, &COST);
-    let mut series = opened(&rt, alloc, prices);
+// Whether a series of these pairs takes the pits of two factors, and no others.
+fn takes_two_pits(rt: &(impl Threads + Sync + Abort), alloc: Global, rests: HeldPairs) {
+    let prices = prices(rt, alloc, &REVENUE, &COST);
+    let mut series = Series::open(alloc, rests, prices).expect(rt, "series");
     let pushes = [
         (LOW, 500, None),
         (HIGH, 1_000, None),
@@ -205,12 +227,19 @@ fn each_block_has_the_lowest_factor_that_digs_it(rt: HostRuntime) {
         (HIGH, 1_200, Some(SeriesFault::WrongModel)),
     ];
     for (proved, factor, fault) in pushes {
-        let refusal = added(&rt, alloc, &mut series, proved, factor);
-        same(&rt, refusal, fault);
+        let refusal = added(rt, alloc, &mut series, proved, factor);
+        same(rt, refusal, fault);
     }
-    same(&rt, series.factors(), [500, 1_000].as_slice());
+    same(rt, series.factors(), [500, 1_000].as_slice());
     let shells = [Some(1_000), Some(1_000), Some(500)];
-    same(&rt, has_shells(&series, &shells), true);
+    same(rt, has_shells(&series, &shells), true);
+}
+
+#[test]
+fn each_block_has_the_lowest_factor_that_digs_it(rt: HostRuntime) {
+    let alloc = rt.alloc();
+    takes_two_pits(&rt, alloc, listed(&rt, alloc));
+    takes_two_pits(&rt, alloc, placed(&rt, alloc));
 }
 
 // Where nothing is earned, the net is the same at each factor.
@@ -377,7 +406,7 @@ fn a_table_says_what_its_certificates_name(rt: HostRuntime) {
 fn a_series_has_a_price_for_each_block(rt: HostRuntime) {
     let alloc = rt.alloc();
     let two = prices(&rt, alloc, &[1, 1], &[1, 1]);
-    let series = Series::open(alloc, rests(&rt, alloc), two);
+    let series = Series::open(alloc, listed(&rt, alloc), two);
     tells(&rt, alloc, series.err(), "WrongModel");
 }
 

@@ -1,6 +1,6 @@
 -- The pairs of a block in order are those to which its ways lead; and those of all blocks are the list of a precedence.
-use Rattle.fixed_worth.proofs.Common.{◌≡◌, ℕ, zero, suc, ◌+◌, ◌<◌, ◌≤◌, ◌++◌, Bool, inl, inr, IsTrue, All, Contains, List, length, get_or, refl, sym, ap, ◌∙◌, subst, arith, cases_eq, cases_lt, length-map, get_or-map, get_or_default, length-append, Contains-get_or, Contains-append_left, Contains-push, Contains-push_cases, Option, Some, None, [], ◌∷◌, ◌⊎◌}
-use Rattle.prec_file.specs.Rests.{RestsView, IsRests, IsKnown, Before, IsRising, ArePairsOf, numbers_passing, has_pair}
+use Rattle.fixed_worth.proofs.Common.{◌≡◌, ℕ, zero, suc, ◌+◌, ◌<◌, ◌≤◌, ◌++◌, Bool, inl, inr, IsTrue, All, Contains, List, length, get_or, refl, sym, ap, ◌∙◌, subst, arith, cases_eq, cases_lt, length-map, get_or-map, get_or_default, length-append, Contains-get_or, Contains-append_left, Contains-push, Contains-push_cases, Option, Some, None, [], ◌∷◌}
+use Rattle.prec_file.specs.Rests.{RestsView, IsRests, IsKnown, Before, IsRising, numbers_passing, has_pair}
 use Rattle.prec_file.proofs.Passing.{passing_at, passing_grows, passing_most}
 use Rattle.prec_file.proofs.Pairs.{rests_of_pair, pair_of_rests}
 use Rattle.prec_file.proofs.OneListing.{one_listing}

@@ -1,8 +1,8 @@
 -- A pit that is the best one with some of the pairs is the best one with all, where it is closed under all.
-use Rattle.fixed_worth.proofs.Common.{◌≡◌, ◌∙◌, ℕ, ◌<◌, ℤ, Bool, true, false, ◌&&◌, not, IsTrue, Contains, List, length, sym, subst, ap, arith, common_steps}
+use Rattle.fixed_worth.proofs.Common.{◌≡◌, ◌∙◌, ℕ, ◌<◌, ℤ, Bool, true, false, IsTrue, Contains, List, length, sym, arith, common_steps}
 use Rattle.prec_file.specs.Rests.{has_pair}
 use Rattle.prec_file.proofs.Pairs.{rests_of_pair, pair_of_rests}
-use Rattle.closure_net.specs.Prelude.{Mine, IsBest, IsPit, holds_of}
+use Rattle.closure_net.specs.Prelude.{IsBest, IsPit, holds_of}
 use Rattle.places.specs.Prelude.{PrecedenceView, IsPrecedence, implied}
 use Rattle.places.proofs.ImpliedPairs.{implied_is}
 use Rattle.design_value.specs.Prelude.{leads_out, marked_in}

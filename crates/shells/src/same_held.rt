@@ -1,6 +1,6 @@
 //! Whether a list has just the pairs of a precedence, whoever holds it.
 
-ghost use Rattle.std.specs.Prelude.{◌≡◌, ◌<◌, ◌↔◌, ℕ, IsTrue, Contains, length};
+ghost use Rattle.std.specs.Prelude.{◌≡◌, ◌<◌, ◌↔◌, ℕ, IsTrue, Contains};
 
 use held_pairs::HeldPairs;
 use places::Precedence;

@@ -1,8 +1,8 @@
 -- Some blocks of a grid with numbers of their own are a precedence, whose pairs are those among them.
-use Rattle.fixed_worth.proofs.Common.{◌≡◌, ◌≢◌, ◌↔◌, ℕ, zero, suc, ◌<◌, ◌≤◌, ◌+◌, ◌-◌, ◌&&◌, ◌∙◌, nat_lt, Bool, Option, Some, None, IsTrue, All, Contains, List, length, get_or, sym, subst, ap, arith, common_steps, and_from, and_parts, lt-ltb, ltb-true, refl}
-use Rattle.places.specs.Prelude.{PrecedenceView, IsPrecedence, Leads, gridded, rests_at, ways_at, way_at, block_in, implied}
+use Rattle.fixed_worth.proofs.Common.{◌≡◌, ℕ, zero, suc, ◌<◌, ◌+◌, ◌-◌, ◌&&◌, ◌∙◌, nat_lt, Option, Some, None, IsTrue, length, get_or, sym, subst, ap, arith, common_steps, and_from, and_parts, lt-ltb, ltb-true, refl}
+use Rattle.places.specs.Prelude.{IsPrecedence, Leads, gridded, rests_at, way_at, block_in, implied}
 use Rattle.places.proofs.ImpliedPairs.{implied_is}
-use Rattle.sub_mines.specs.Prelude.{AmongView, AreAmong, ArePlacesAmong, IsPartPairs, among, place_of, rests_among, number_in}
+use Rattle.sub_mines.specs.Prelude.{AmongView, AreAmong, IsPartPairs, among, place_of, rests_among, number_in}
 
 -- ---- the place of a block
 

@@ -1,5 +1,5 @@
 -- Who precedes whom among some blocks of a grid, which are numbered by their places in a list.
-use Rattle.std.specs.Prelude.{◌≡◌, ℕ, ◌<◌, ◌≤◌, ◌&&◌, nat_lt, Bool, All, Option, Some, None, List, length, slice_index_or}
+use Rattle.std.specs.Prelude.{ℕ, ◌<◌, ◌≤◌, ◌&&◌, nat_lt, Bool, All, Option, Some, None, List, length, slice_index_or}
 use Rattle.places.specs.Prelude.{GridView, PrecedenceView, IsPrecedence, gridded, rests_at, ways_at, way_at, block_in}
 use Rattle.closure_net.specs.Network.{IsAscending}
 use Rattle.sub_mines.specs.Renumbered.{number_in}

@@ -1,6 +1,6 @@
-use Rattle.fixed_worth.proofs.Common.{◌≡◌, ◌∙◌, ℕ, List, IfOk, length, ap, subst, arith}
+use Rattle.fixed_worth.proofs.Common.{◌∙◌, ℕ, List, IfOk, length, ap, subst, arith}
 use Rattle.prec_file.specs.Rests.{RestsView, has_pair}
-use Rattle.places.specs.Prelude.{implied, lent}
+use Rattle.places.specs.Prelude.{lent}
 use Rattle.design_value.specs.Prelude.{AreOpen, marked_in}
 use Rattle.design_value.proofs.BlockPairs.{same_list}
 use Rattle.design_value.proofs.open_pairs.open_pairs_of.Goals as goal

@@ -1,8 +1,8 @@
-use Rattle.fixed_worth.proofs.Common.{◌≡◌, ◌∙◌, ◌<◌, ℕ, List, Bool, Option, IfSome, IsTrue, length, sym, ap, subst, false}
+use Rattle.fixed_worth.proofs.Common.{◌≡◌, ◌∙◌, ◌<◌, ℕ, List, Bool, Option, IfSome, sym, ap, subst, false}
 use Rattle.ordered_group.specs.Block.{scaled_block}
 use Rattle.closure_net.specs.Prelude.{holds_of}
 use Rattle.places.specs.Prelude.{gridded, implied}
-use Rattle.design_value.specs.Prelude.{leads_out, marked_in}
+use Rattle.design_value.specs.Prelude.{marked_in}
 use Rattle.sub_mines.specs.Prelude.{among}
 use Rattle.shell_engines.specs.declared.part_pits.Draft.{Draft}
 use Rattle.shell_engines.specs.Prelude.{IsFewNet, mine_among}

@@ -1,4 +1,4 @@
-use Rattle.fixed_worth.proofs.Common.{◌≡◌, ◌<◌, ◌∙◌, ℕ, Some, length, get_or, sym, ap, subst, arith, rules, get_or_read}
+use Rattle.fixed_worth.proofs.Common.{◌≡◌, ◌<◌, ◌∙◌, Some, length, get_or, sym, ap, subst, arith, rules, get_or_read}
 use Rattle.places.specs.Prelude.{way_at, block_in}
 use Rattle.sub_mines.specs.Prelude.{AmongView, AreAmong, place_of, number_in}
 use Rattle.sub_mines.proofs.among_grid.AmongGridPrecedence.way.Goals as goal
