@@ -1,3 +1,4 @@
+pub mod BlockByBlock
 pub mod PairByPair
 pub mod Feasible
 pub mod Sums

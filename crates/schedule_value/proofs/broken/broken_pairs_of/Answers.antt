@@ -1,6 +1,6 @@
 use Rattle.std.proofs.Common.{rules, ◌≡◌, ℕ, List, [], take, ap, ◌∙◌, subst, refl, arith}
 use Rattle.prec_file.specs.Rests.{first_of}
-use Rattle.design_value.proofs.Leading.{none_passed, all_passed}
+use Rattle.schedule_value.proofs.BlockByBlock.{none_passed, all_passed}
 use Rattle.schedule_value.specs.Prelude.{AreBroken, period_by}
 use Rattle.schedule_value.proofs.broken.broken_pairs_of.Goals as goal
 

@@ -1,6 +1,6 @@
 use Rattle.std.proofs.Common.{◌≡◌, ℕ, ◌+◌, ◌<◌, List, [], ◌∷◌, ◌++◌, length, take, get_or, sym, ap, ◌∙◌, subst, arith}
 use Rattle.prec_file.specs.Rests.{first_of, above_of}
-use Rattle.design_value.proofs.Leading.{next_pair, block_passed}
+use Rattle.schedule_value.proofs.BlockByBlock.{next_pair, block_passed}
 use Rattle.schedule_value.specs.Prelude.{AreBroken, period_by}
 use Rattle.schedule_value.proofs.PairByPair.{few_break}
 use Rattle.schedule_value.proofs.broken.pass_block.Goals as goal
