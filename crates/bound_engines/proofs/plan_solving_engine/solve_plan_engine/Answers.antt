@@ -1,10 +1,18 @@
 use Rattle.std.proofs.Common.{Err}
 use Rattle.bound_engines.specs.Prelude.{SolvesPlan}
+use Rattle.schedule_engines.specs.declared.schedule_fault.PlanFault.TheVariants as plan
 use Rattle.bound_engines.specs.declared.bound_fault.BoundFault.TheVariants as bound
 use Rattle.bound_engines.proofs.PlanSolved.{unsolved}
 use Rattle.bound_engines.proofs.TextsBeside.{of_read, whatever}
 use Rattle.bound_engines.proofs.TextsFailing.{answers, of_beside, of_mine}
 use Rattle.bound_engines.proofs.plan_solving_engine.solve_plan_engine.Goals as goal
+
+pub returns-in-Err-clause-answer : goal.returns-in-Err-clause-answer
+returns-in-Err-clause-answer g c =
+    let asked = c.args.asked in
+    let w = g.W.Write.contents c.args.out.now in
+    let fault = bound.Plan (plan.Engine c.in-Err.fault) in
+    whatever c.args.inputs.now c.args.beside.now g.D.Read.remaining asked.factor (λ texts p u. SolvesPlan texts p u asked.effort.method asked.effort.steps w w (Err fault)) (λ texts p u. unsolved texts p u asked.effort.method asked.effort.steps w fault)
 
 pub returns-in-Err-beside_from-clause-answer : goal.returns-in-Err-beside_from-clause-answer
 returns-in-Err-beside_from-clause-answer g c =
