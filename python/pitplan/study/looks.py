@@ -348,11 +348,7 @@ def _of_costs(priced: Priced, rock: Bools, economics: Economics) -> Iterator[Str
             is_one = isinstance(said.cost, (int, float))
             yield Strange(
                 f"no block goes to {way.name} at the full price"
-                + (
-                    f"; it costs {rounded(said.cost, 6)} {economics.currency} a tonne"
-                    if is_one
-                    else ""
-                ),
+                + (f"; it costs {said.cost:,.6g} {economics.currency} a tonne" if is_one else ""),
                 "",
                 f"cost, recovery and rocks of {said.said}",
                 said.key("processing"),

@@ -447,6 +447,28 @@ def test_a_term_that_the_plan_by_years_takes_from_elsewhere_is_shown_in_its_box(
     assert "0.08" in browser.text("[id='line.shells.discount']")
 
 
+NEVER_ENDS = """const asks = window.fetch;
+window.fetch = async (path, how) => {
+  const answer = await asks(path, how);
+  if (!path.includes("?from=")) return answer;
+  const far = { command: "", what: "", at: 0, of: 0 };
+  const told = { ...await answer.json(), state: "running", far };
+  return new Response(JSON.stringify(told), { headers: { "content-type": "application/json" } });
+}"""
+
+
+def test_the_end_of_a_run_is_told_whatever_sees_it_first(browser, desk, folder):
+    """A look at the whole study, before the look at the run itself."""
+    shutil.copytree(folder / "hill", folder / "ends")
+    browser.get("about:blank")
+    browser.get(f"{desk.address}/#/ends/pits")
+    browser.there("#build:not([disabled])")
+    browser.script(NEVER_ENDS)
+    browser.click("#build")
+    browser.hears("build: done")
+    browser.get("about:blank")  # the next test asks as the page does
+
+
 def test_the_manual_is_a_link_where_it_is_there(browser, desk):
     browser.get(f"{desk.address}/#/")
     browser.sees("The manual")

@@ -192,13 +192,11 @@ export function typed(asked) {
     [...lines, ...words].map(each => h("span", each)));
 }
 
-/** Tells the run that goes on, and how it has ended. @param {any} run */
-async function follow(run) {
-  const now = await eventsOf(run.number);
-  await draw();
-  if (!now || now.state === "running") return;
-  say(`${nameOf(now)}: ${now.state}`, chipOf(now).classList[1]);
-  await reread().then(draw);
+let goes = ""; // the run that went on when it was last drawn: whatever sees its end, it is told
+function tellEnd() {
+  const now = D.study?.runs?.find(run => `${D.study.name} ${run.number}` === goes);
+  if (now && now.state !== "running") say(`${nameOf(now)}: ${now.state}`, chipOf(now).classList[1]);
+  goes = going() ? `${D.study.name} ${going().number}` : "";
 }
 
 /** Looks at what others do: in other windows, in an editor, in a terminal. @param {any} was */
@@ -214,7 +212,8 @@ async function pulse(was) {
 }
 
 async function watch(n) {
-  if (going()) await follow(going());
+  const now = going() && await eventsOf(going().number);
+  if (now) await (now.state === "running" ? draw() : reread().then(draw));
   if (n % OTHERS === 0 && D.study?.text && !document.hidden && !D.edits) await pulse(D.study);
 }
 const beat = n => watch(n).finally(() => setTimeout(beat, POLL, n + 1));
@@ -314,6 +313,7 @@ function refocus(before) {
 let drawn = null;
 export async function draw() {
   if (isGone()) return; // what was typed stays as it is
+  tellEnd();
   const { screen, part } = where();
   const before = document.activeElement;
   const isStudy = Boolean(D.study?.text);
