@@ -30,7 +30,7 @@ export const agreed = question => new Promise(done => {
   const dialog = byId("asks");
   dialog.querySelector("p").textContent = question;
   dialog.onclick = e => e.target.id && e.target !== dialog && dialog.close(e.target.id);
-  dialog.onclose = () => done(dialog.returnValue === "yes");
+  dialog.onclose = () => dialog.open || done(dialog.returnValue === "yes"); // not an earlier one's
   return dialog.open || dialog.showModal(); // one at a time
 });
 
