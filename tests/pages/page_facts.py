@@ -201,7 +201,7 @@ def of_shells(reader):
     return [
         "The second checks it: %s." % best,
         "\n%s. No other set" % best,
-        "the best pit has %d blocks, worth %s dollars there"
+        "the best pit has %d blocks, and is worth %s dollars at that price"
         % (by_factor[800][1], commas(by_factor[800][2])),
         "each of the {} blocks is one of the {}, and each of the {} one of the {}".format(
             by_factor[800][1], by_factor[1000][1], by_factor[1000][1], by_factor[1200][1]
