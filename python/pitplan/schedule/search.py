@@ -27,6 +27,7 @@ from .sorting import Sorting
 from .terms import MILLION
 from .unit_texts import UnitTexts
 from .whole_units import by_whole_units, is_small
+from .windows import Windows
 
 _BOUND_PART = 0.6  # of the time, that the bound may take
 _NEAR = 0.01  # of the gap asked for, to which the bound comes to the relaxation
@@ -34,7 +35,9 @@ _NEAREST = 1e-5
 _TRIES = 2000  # swaps between each two periods in a round
 _REBUILDS = 100  # tries of a round to dig other units, at most
 _REBUILT = 10_000  # units that they go over together
-_SWAPS = 3  # rounds of swaps before each annealing
+_SWAPS = 3  # rounds of swaps, after which come windows
+_WIDTHS = (2, 2, 3)  # periods of the windows of each pass, in turns
+_LITTLE = 1e-5  # of the worth: where a pass of windows brings less, annealing comes
 _LEAST, _MOST = 150, 12_000  # swaps between each two periods at each temperature of the first one
 _LONGER = 1.5  # times that each annealing is longer than the one before
 _OFTEN = 4  # how often it gets longer
@@ -120,10 +123,12 @@ class Search:
             UnitTexts(production) if production.is_plain else Expanded(production)
         )
         self.sorting = Sorting(production)
+        self.windows = Windows(self.sorting)
         self.told, self.found = told, Found()
         self.rebuilds = min(_REBUILDS, _REBUILT // production.units)
         self.plan: Timetable | None = None
-        self.rounds = 0  # of swaps and annealing
+        self.rounds = self.anneals = 0  # of all kinds, and of annealing
+        self.is_stuck = False  # whether windows bring next to nothing
         self.pace = 0.0  # seconds that annealing took for each of its tries
         self.end = self.kept.end()
         self.bound = self.kept.bound()
@@ -300,8 +305,8 @@ class Search:
             yield shares_of(cluster, relaxed), relaxed.multipliers
 
     def swap(self, gap: float, ends: float) -> str:
-        """Swaps between neighbouring periods in rounds, then annealing, longer each time, until these
-        bring next to nothing. Gives why it ended."""
+        """Swaps between neighbouring periods in rounds, then windows of these, and annealing in between, longer
+        each time, until all bring next to nothing. Gives why it ended."""
         stale, seed = 0, int(self.kept.arrays("swaps").get("seed", np.array(0)))
         while True:
             if self.found.gap <= gap:
@@ -319,17 +324,23 @@ class Search:
             stale = stale + 1 if self.found.npv - before <= _NOTHING * abs(before) else 0
 
     def one_round(self, seed: int) -> None:
-        """One round: of swaps, or after some of these of annealing, each longer than the one before;
-        and of rebuilding."""
-        assert self.plan is not None
-        self.rounds += 1
-        anneals, rest = divmod(self.rounds, _SWAPS + 1)
-        if rest:
+        """One round: of swaps, or after some of these of windows, or of annealing where windows bring little; and
+        of rebuilding."""
+        assert self.plan is not None and self.found.npv is not None
+        self.rounds, before = self.rounds + 1, self.found.npv
+        if self.rounds <= _SWAPS:
             self.tell("swaps between neighbouring periods")
             self.take(self.sorting.swapped(self.plan, _TRIES, seed))
-        else:
+        elif self.is_stuck:
             self.tell("annealing: swaps of which some lose")
-            self.anneal(anneals, seed)
+            self.anneals += 1
+            self.anneal(self.anneals, seed)
+            self.is_stuck = False
+        else:
+            self.tell("windows of a few periods, by HiGHS")
+            width = _WIDTHS[self.rounds % len(_WIDTHS)]
+            self.take(self.windows.bettered(self.plan, width, seed))
+            self.is_stuck = self.found.npv - before <= _LITTLE * abs(before)
         self.take(self.sorting.rebuilt(self.plan, self.rebuilds, seed))
 
     def anneal(self, times: int, seed: int) -> None:
