@@ -88,9 +88,7 @@ def followers(mine: Mine, period: Ints, window: tuple[int, int], most: int) -> I
         for way in range(2):
             if now == (begin, end)[way]:
                 continue
-            first, others = (
-                (mine.first, mine.above) if way == 0 else (mine.on_first, mine.on)
-            )
+            first, others = (mine.first, mine.above) if way == 0 else (mine.on_first, mine.on)
             stack[0], mark[unit], count, done = unit, 2 * unit + way, 1, 0
             while done < count < least:
                 each = stack[done]

@@ -42,7 +42,7 @@ _LEAST, _MOST = 150, 12_000  # swaps between each two periods at each temperatur
 _LONGER = 1.5  # times that each annealing is longer than the one before
 _OFTEN = 4  # how often it gets longer
 _OF_LEFT = 0.9  # of the time that is left, which annealing may take
-_STALE = 8  # rounds in a row that bring next to nothing, after which the search ends
+_STALE = 6  # rounds in a row that bring next to nothing, after which the search ends
 _LONGEST = 1e9  # seconds of a search
 _NOTHING = 2e-6  # of the worth: what counts as next to nothing
 

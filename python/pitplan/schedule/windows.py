@@ -24,10 +24,10 @@ from .sending import Timetable
 from .sorting import Sorting
 from .units import rows_of
 
-_FEWEST, _FIRST, _MOST = 100, 500, 3000  # units that are opened
+_FEWEST, _FIRST, _MOST = 60, 300, 3000  # units that are opened
 _MORE, _LESS = 1.5, 0.6  # times that, where HiGHS ended and found nothing, or was ended
 _MOST_FOLLOW = 300  # units that go with one that is opened, at most
-_NODES = 400  # of the tree of one window, so that its size and not the time ends it
+_NODES = 100  # of the tree of one window, so that its size and not the time ends it
 _SECONDS = 10.0  # of one window, at most
 _NEAR = 1e-7  # of the schedule's worth, to which a window is solved
 _MOST_GAP = 0.01  # of the window's worth, likewise
@@ -93,7 +93,7 @@ class Window(NamedTuple):
             options={
                 "time_limit": max(seconds, 0.0),
                 "node_limit": _NODES,
-                "mip_rel_gap": min(near / max(now, near), _MOST_GAP),
+                "mip_rel_gap": min(near / max(now, near, 1.0), _MOST_GAP),
             },
         )
         shares = None if found.x is None else (np.asarray(found.x) > 0.5).astype(np.int64)
@@ -139,7 +139,9 @@ def window_of(mine: Mine, weights: Ints, plan: Plan, ranges: Ranges) -> Window:
     rows, rooms = [], []
     for uses, left in zip(mine.uses, plan.left):
         grain = max(float(uses[unit].max()), 1.0)
-        dug = coo_matrix((uses[unit] / grain, (at, np.arange(len(unit)))), (size, len(unit))).tocsr()
+        dug = coo_matrix(
+            (uses[unit] / grain, (at, np.arange(len(unit)))), (size, len(unit))
+        ).tocsr()
         before = vstack([csr_matrix((1, len(unit))), dug[:-1]])
         rows.append(dug - before)
         rooms.append(left / grain + rows[-1] @ now)
@@ -172,7 +174,7 @@ def _resting(pairs: Pairs, lag: int, shares: _Shares, ranges: Ranges) -> tuple[I
     return np.concatenate(low), np.concatenate(high)
 
 
-class _Asked(NamedTuple):
+class Asked(NamedTuple):
     """What is asked of a window.
 
     Attributes
@@ -230,14 +232,14 @@ class Windows:
 
         def better(s: int) -> None:
             if not sorting.is_late:
-                asked = _Asked((s, s + width - 1), plan.sent, near, seed)
+                asked = Asked((s, s + width - 1), plan.sent, near, seed)
                 self.better_one(mine, more, asked)
 
         for first in range(width):
             sorting.at_once(better, range(first, sorting.production.periods + 2 - width, width))
         return sorting.moved(sorting.sent_in(more.period))
 
-    def better_one(self, mine: Mine, plan: Plan, asked: _Asked) -> None:
+    def better_one(self, mine: Mine, plan: Plan, asked: Asked) -> None:
         """Makes one window better, where HiGHS finds how."""
         begin, end = asked.window
         inside = np.flatnonzero((plan.period >= begin) & (plan.period <= end))
@@ -265,7 +267,7 @@ class Windows:
         """What a window may take."""
         return min(_SECONDS, self.sorting.ends - time.monotonic())
 
-    def opened(self, mine: Mine, plan: Plan, asked: _Asked, begun: tuple[Ints, int]) -> Ints:
+    def opened(self, mine: Mine, plan: Plan, asked: Asked, begun: tuple[Ints, int]) -> Ints:
         """The units that are opened of those in a window, about so many: that few others go with, and at random
         some that more do."""
         inside, size = begun
@@ -276,7 +278,7 @@ class Windows:
         order = np.argsort(count * (1 + random.random(len(inside))), kind="stable")
         return np.sort(inside[order[:size]])
 
-    def take(self, plan: Plan, window: Window, shares: Ints, asked: _Asked) -> bool:
+    def take(self, plan: Plan, window: Window, shares: Ints, asked: Asked) -> bool:
         """Takes what was found of a window into the schedule, where that is feasible then and worth more."""
         made, before = self.sorting.production, plan.period.copy()
         after = window.periods(shares, before)
