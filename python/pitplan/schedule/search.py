@@ -37,7 +37,6 @@ _REBUILDS = 100  # tries of a round to dig other units, at most
 _REBUILT = 10_000  # units that they go over together
 _SWAPS = 3  # rounds of swaps, after which come windows
 _WIDTHS = (2, 2, 3)  # periods of the windows of each pass, in turns
-_LITTLE = 1e-5  # of the worth: where a pass of windows brings less, annealing comes
 _LEAST, _MOST = 150, 12_000  # swaps between each two periods at each temperature of the first one
 _LONGER = 1.5  # times that each annealing is longer than the one before
 _OFTEN = 4  # how often it gets longer
@@ -324,8 +323,8 @@ class Search:
             stale = stale + 1 if self.found.npv - before <= _NOTHING * abs(before) else 0
 
     def one_round(self, seed: int) -> None:
-        """One round: of swaps, or after some of these of windows, or of annealing where windows bring little; and
-        of rebuilding."""
+        """One round: of swaps, after some of these of windows, or of annealing where windows brought next to
+        nothing; and of rebuilding."""
         assert self.plan is not None and self.found.npv is not None
         self.rounds, before = self.rounds + 1, self.found.npv
         if self.rounds <= _SWAPS:
@@ -340,7 +339,7 @@ class Search:
             self.tell("windows of a few periods, by HiGHS")
             width = _WIDTHS[self.rounds % len(_WIDTHS)]
             self.take(self.windows.bettered(self.plan, width, seed))
-            self.is_stuck = self.found.npv - before <= _LITTLE * abs(before)
+            self.is_stuck = self.found.npv - before <= _NOTHING * abs(before)
         self.take(self.sorting.rebuilt(self.plan, self.rebuilds, seed))
 
     def anneal(self, times: int, seed: int) -> None:

@@ -24,10 +24,10 @@ from .sending import Timetable
 from .sorting import Sorting
 from .units import rows_of
 
-_FEWEST, _FIRST, _MOST = 60, 300, 3000  # units that are opened
+_FEWEST, _FIRST, _MOST = 60, 500, 3000  # units that are opened
 _MORE, _LESS = 1.5, 0.6  # times that, where HiGHS ended and found nothing, or was ended
 _MOST_FOLLOW = 300  # units that go with one that is opened, at most
-_NODES = 100  # of the tree of one window, so that its size and not the time ends it
+_NODES = 200  # of the tree of one window, so that its size and not the time ends it
 _SECONDS = 10.0  # of one window, at most
 _NEAR = 1e-7  # of the schedule's worth, to which a window is solved
 _MOST_GAP = 0.01  # of the window's worth, likewise
@@ -59,7 +59,7 @@ class _Shares(NamedTuple):
         return cls(unit, np.arange(len(unit)) - start[unit], start)
 
 
-class Window(NamedTuple):
+class _Window(NamedTuple):
     """A window as a program: of shares from 0 to 1, which gives most where no row of a table exceeds its limit.
 
     Attributes
@@ -112,7 +112,7 @@ class Window(NamedTuple):
         return found
 
 
-def window_of(mine: Mine, weights: Ints, plan: Plan, ranges: Ranges) -> Window:
+def _window_of(mine: Mine, weights: Ints, plan: Plan, ranges: Ranges) -> _Window:
     """The window of some ranges, of which some are open.
 
     Parameters
@@ -145,7 +145,7 @@ def window_of(mine: Mine, weights: Ints, plan: Plan, ranges: Ranges) -> Window:
         before = vstack([csr_matrix((1, len(unit))), dug[:-1]])
         rows.append(dug - before)
         rooms.append(left / grain + rows[-1] @ now)
-    return Window(
+    return _Window(
         ranges,
         shares,
         mine.values[unit] * (weights - np.append(weights[1:], 0))[at].astype(float),
@@ -174,7 +174,7 @@ def _resting(pairs: Pairs, lag: int, shares: _Shares, ranges: Ranges) -> tuple[I
     return np.concatenate(low), np.concatenate(high)
 
 
-class Asked(NamedTuple):
+class _Asked(NamedTuple):
     """What is asked of a window.
 
     Attributes
@@ -232,18 +232,18 @@ class Windows:
 
         def better(s: int) -> None:
             if not sorting.is_late:
-                asked = Asked((s, s + width - 1), plan.sent, near, seed)
+                asked = _Asked((s, s + width - 1), plan.sent, near, seed)
                 self.better_one(mine, more, asked)
 
         for first in range(width):
             sorting.at_once(better, range(first, sorting.production.periods + 2 - width, width))
         return sorting.moved(sorting.sent_in(more.period))
 
-    def better_one(self, mine: Mine, plan: Plan, asked: Asked) -> None:
+    def better_one(self, mine: Mine, plan: Plan, asked: _Asked) -> None:
         """Makes one window better, where HiGHS finds how."""
         begin, end = asked.window
         inside = np.flatnonzero((plan.period >= begin) & (plan.period <= end))
-        state = hash((inside.tobytes(), plan.period[inside].tobytes()))
+        state = hash(b"".join(each.tobytes() for each in (inside, plan.period[inside], asked.sent)))
         if self.done.get(asked.window) == state:
             return
         size = self.sizes.get(asked.window, float(_FIRST))
@@ -251,7 +251,7 @@ class Windows:
         ranges = ranges_of(mine, plan.period, self.sorting.order, (units, begin, end))
         if not ranges.is_open.any():
             return
-        window = window_of(mine, self.sorting.production.weights, plan, ranges)
+        window = _window_of(mine, self.sorting.production.weights, plan, ranges)
         shares, is_ended = window.whole(self.seconds, asked.near)
         is_better = shares is not None and self.take(plan, window, shares, asked)
         if not is_ended:
@@ -267,7 +267,7 @@ class Windows:
         """What a window may take."""
         return min(_SECONDS, self.sorting.ends - time.monotonic())
 
-    def opened(self, mine: Mine, plan: Plan, asked: Asked, begun: tuple[Ints, int]) -> Ints:
+    def opened(self, mine: Mine, plan: Plan, asked: _Asked, begun: tuple[Ints, int]) -> Ints:
         """The units that are opened of those in a window, about so many: that few others go with, and at random
         some that more do."""
         inside, size = begun
@@ -278,7 +278,7 @@ class Windows:
         order = np.argsort(count * (1 + random.random(len(inside))), kind="stable")
         return np.sort(inside[order[:size]])
 
-    def take(self, plan: Plan, window: Window, shares: Ints, asked: Asked) -> bool:
+    def take(self, plan: Plan, window: _Window, shares: Ints, asked: _Asked) -> bool:
         """Takes what was found of a window into the schedule, where that is feasible then and worth more."""
         made, before = self.sorting.production, plan.period.copy()
         after = window.periods(shares, before)

@@ -12,7 +12,7 @@ from pitplan.schedule.pairs import Pairs
 from pitplan.schedule.ranges import followers, ranges_of
 from pitplan.schedule.sending import Timetable
 from pitplan.schedule.sorting import Sorting
-from pitplan.schedule.windows import Windows, window_of
+from pitplan.schedule.windows import Windows
 from tiny_mines import TinyMine
 
 MINES = [
@@ -82,7 +82,7 @@ def test_a_window_has_no_better_schedule_than_is_found(seed, kind, sink):
         if not ranges.is_open.any():
             assert best == made.npv(plan)
             continue
-        window = window_of(orders.mine, made.weights, orders.loose(plan), ranges)
+        window = windows._window_of(orders.mine, made.weights, orders.loose(plan), ranges)
         shares, is_ended = window.whole(60.0, 0.0)
         found = Timetable(window.periods(shares, plan.period), plan.sent)
         assert is_ended
@@ -103,7 +103,7 @@ def test_three_periods_at_once(seed, kind):
         ranges = ranges_of(orders.mine, plan.period, orders.order, (units, begin, end))
         if not ranges.is_open.any():
             continue
-        window = window_of(orders.mine, made.weights, orders.loose(plan), ranges)
+        window = windows._window_of(orders.mine, made.weights, orders.loose(plan), ranges)
         found = Timetable(window.periods(window.whole(60.0, 0.0)[0], plan.period), plan.sent)
         assert made.wrong(found) == []
         assert made.npv(found) == best_of_all(made, plan, units, begin, end)
@@ -157,7 +157,7 @@ def test_what_is_left_of_capacities_stays_right(seed, kind, sink):
     orders, plan = begun(made)
     loose, found = orders.loose(plan), Windows(orders)
     for s in range(made.periods):
-        found.better_one(orders.mine, loose, windows.Asked((s, s + 1), plan.sent, 0.0, s))
+        found.better_one(orders.mine, loose, windows._Asked((s, s + 1), plan.sent, 0.0, s))
         after = Timetable(loose.period, plan.sent)
         assert (loose.left == made.capacities - made.used(after)).all()
 
@@ -188,10 +188,10 @@ def test_what_is_no_improvement_is_not_taken(monkeypatch):
     orders, plan = begun(made)
     plan = Windows(orders).bettered(plan, 2, 1)
     for s in range(made.periods):
-        asked, loose = windows.Asked((s, s + 1), plan.sent, 0.0, 1), orders.loose(plan)
+        asked, loose = windows._Asked((s, s + 1), plan.sent, 0.0, 1), orders.loose(plan)
         inside = np.flatnonzero((plan.period >= s) & (plan.period <= s + 1))
         ranges = ranges_of(orders.mine, plan.period, orders.order, (inside, s, s + 1))
-        count = len(window_of(orders.mine, made.weights, loose, ranges).gains)
+        count = len(windows._window_of(orders.mine, made.weights, loose, ranges).gains)
         for shares in (np.zeros(count), np.ones(count), np.arange(count) % 2, None):
             monkeypatch.setattr(windows, "milp", answered(shares))
             Windows(orders).better_one(orders.mine, loose, asked)
@@ -224,11 +224,11 @@ def test_it_ends_with_the_time(monkeypatch):
 def test_more_units_are_opened_where_highs_ends_and_fewer_where_it_is_ended(monkeypatch):
     made = made_of(9, {})
     orders, plan = begun(made)
-    for status, sizes in ((0, [450, 675]), (1, [180, 108])):
+    for status, sizes in ((0, [750, 1125]), (1, [300, 180])):
         monkeypatch.setattr(
             windows, "milp", lambda *_, **__: SimpleNamespace(x=None, status=status)
         )
-        found, asked = Windows(orders), windows.Asked((0, 1), plan.sent, 0.0, 1)
+        found, asked = Windows(orders), windows._Asked((0, 1), plan.sent, 0.0, 1)
         for size in sizes:
             found.done.clear()
             found.better_one(orders.mine, orders.loose(plan), asked)
