@@ -3,8 +3,9 @@ while all others stay.
 
 Within a window slopes, sink rate and capacities hold, and where units may be moved at all is known from those
 that stay. So a window that is solved to its end has no better schedule; and whatever HiGHS says, a schedule
-counts where `Production` finds it feasible and worth more. Units are opened that few others go
-with, and how many goes by whether HiGHS came to an end the time before.
+counts where `Production` finds it feasible and worth more. Units are opened that few others go with, and how
+many goes by whether HiGHS came to an end the time before. What ends it is the size of its tree, and the clock
+alone where a window takes long or the time is over: up to there a schedule doesn't depend on the machine.
 """
 from __future__ import annotations
 
@@ -249,11 +250,11 @@ class Windows:
         size = self.sizes.get(asked.window, float(_FIRST))
         units = self.opened(mine, plan, asked, (inside, int(size)))
         ranges = ranges_of(mine, plan.period, self.sorting.order, (units, begin, end))
-        if not ranges.is_open.any():
-            return
-        window = _window_of(mine, self.sorting.production.weights, plan, ranges)
-        shares, is_ended = window.whole(self.seconds, asked.near)
-        is_better = shares is not None and self.take(plan, window, shares, asked)
+        is_ended, is_better = True, False
+        if ranges.is_open.any():
+            window = _window_of(mine, self.sorting.production.weights, plan, ranges)
+            shares, is_ended = window.whole(self.seconds, asked.near)
+            is_better = shares is not None and self.take(plan, window, shares, asked)
         if not is_ended:
             size *= _LESS
         elif not is_better:
