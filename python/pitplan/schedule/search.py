@@ -36,12 +36,12 @@ _TRIES = 2000  # swaps between each two periods in a round
 _REBUILDS = 100  # tries of a round to dig other units, at most
 _REBUILT = 10_000  # units that they go over together
 _SWAPS = 3  # rounds of swaps, after which come windows
-_WIDTHS = (2, 2, 3)  # periods of the windows of each pass, in turns
-_LEAST, _MOST = 150, 12_000  # swaps between each two periods at each temperature of the first one
+_WIDTHS = (2, 3, 2)  # periods of the windows of each pass, before each annealing
+_LEAST, _MOST = 150, 4000  # swaps between each two periods at each temperature of the first one
 _LONGER = 1.5  # times that each annealing is longer than the one before
 _OFTEN = 4  # how often it gets longer
 _OF_LEFT = 0.9  # of the time that is left, which annealing may take
-_STALE = 6  # rounds in a row that bring next to nothing, after which the search ends
+_STALE = 8  # rounds in a row that bring next to nothing, after which the search ends
 _LONGEST = 1e9  # seconds of a search
 _NOTHING = 2e-6  # of the worth: what counts as next to nothing
 
@@ -126,8 +126,7 @@ class Search:
         self.told, self.found = told, Found()
         self.rebuilds = min(_REBUILDS, _REBUILT // production.units)
         self.plan: Timetable | None = None
-        self.rounds = self.anneals = 0  # of all kinds, and of annealing
-        self.is_stuck = False  # whether windows bring next to nothing
+        self.rounds = 0  # of swaps, windows and annealing
         self.pace = 0.0  # seconds that annealing took for each of its tries
         self.end = self.kept.end()
         self.bound = self.kept.bound()
@@ -304,7 +303,7 @@ class Search:
             yield shares_of(cluster, relaxed), relaxed.multipliers
 
     def swap(self, gap: float, ends: float) -> str:
-        """Swaps between neighbouring periods in rounds, then windows of these, and annealing in between, longer
+        """Swaps between neighbouring periods in rounds, then windows of these in turns with annealing, longer
         each time, until all bring next to nothing. Gives why it ended."""
         stale, seed = 0, int(self.kept.arrays("swaps").get("seed", np.array(0)))
         while True:
@@ -323,23 +322,20 @@ class Search:
             stale = stale + 1 if self.found.npv - before <= _NOTHING * abs(before) else 0
 
     def one_round(self, seed: int) -> None:
-        """One round: of swaps, after some of these of windows, or of annealing where windows brought next to
-        nothing; and of rebuilding."""
-        assert self.plan is not None and self.found.npv is not None
-        self.rounds, before = self.rounds + 1, self.found.npv
+        """One round: of swaps, after some of these of windows or, in turns with them, of annealing; and of
+        rebuilding."""
+        assert self.plan is not None
+        self.rounds += 1
+        anneals, turn = divmod(self.rounds - _SWAPS, len(_WIDTHS) + 1)
         if self.rounds <= _SWAPS:
             self.tell("swaps between neighbouring periods")
             self.take(self.sorting.swapped(self.plan, _TRIES, seed))
-        elif self.is_stuck:
-            self.tell("annealing: swaps of which some lose")
-            self.anneals += 1
-            self.anneal(self.anneals, seed)
-            self.is_stuck = False
-        else:
+        elif turn:
             self.tell("windows of a few periods, by HiGHS")
-            width = _WIDTHS[self.rounds % len(_WIDTHS)]
-            self.take(self.windows.bettered(self.plan, width, seed))
-            self.is_stuck = self.found.npv - before <= _NOTHING * abs(before)
+            self.take(self.windows.bettered(self.plan, _WIDTHS[turn - 1], seed))
+        else:
+            self.tell("annealing: swaps of which some lose")
+            self.anneal(anneals, seed)
         self.take(self.sorting.rebuilt(self.plan, self.rebuilds, seed))
 
     def anneal(self, times: int, seed: int) -> None:
