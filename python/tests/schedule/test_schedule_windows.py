@@ -235,6 +235,17 @@ def test_more_units_are_opened_where_highs_ends_and_fewer_where_it_is_ended(monk
             assert found.sizes[0, 1] == size
 
 
+@pytest.mark.parametrize("size, is_done", [(3, False), (1000, True)])
+def test_a_window_is_done_only_where_all_its_units_were_opened(monkeypatch, size, is_done):
+    made = made_of(9, {})
+    orders, plan = begun(made)
+    monkeypatch.setattr(windows, "milp", answered(None))
+    found, asked = Windows(orders), windows._Asked((0, 1), plan.sent, 0.0, 1)
+    found.sizes[0, 1] = size
+    found.better_one(orders.mine, orders.loose(plan), asked)
+    assert ((0, 1) in found.done) == is_done
+
+
 def test_a_window_of_which_all_was_looked_at_is_not_looked_at_again(monkeypatch):
     made, asked, whole = made_of(9, {}), [], windows.milp
     orders, plan = begun(made)
