@@ -36,12 +36,13 @@ _TRIES = 2000  # swaps between each two periods in a round
 _REBUILDS = 100  # tries of a round to dig other units, at most
 _REBUILT = 10_000  # units that they go over together
 _SWAPS = 3  # rounds of swaps, after which come windows
-_WIDTHS = (2, 3, 2)  # periods of the windows of each pass, before each annealing
+_WIDTHS = (2, 3, 2)  # periods of the windows of each pass of a round
+_DEARER = 3  # times what a round of windows takes, that annealing does, about
 _LEAST, _MOST = 150, 4000  # swaps between each two periods at each temperature of the first one
 _LONGER = 1.5  # times that each annealing is longer than the one before
 _OFTEN = 4  # how often it gets longer
 _OF_LEFT = 0.9  # of the time that is left, which annealing may take
-_STALE = 8  # rounds in a row that bring next to nothing, after which the search ends
+_STALE = 7  # rounds in a row that bring next to nothing, after which the search ends
 _LONGEST = 1e9  # seconds of a search
 _NOTHING = 2e-6  # of the worth: what counts as next to nothing
 
@@ -126,7 +127,9 @@ class Search:
         self.told, self.found = told, Found()
         self.rebuilds = min(_REBUILDS, _REBUILT // production.units)
         self.plan: Timetable | None = None
-        self.rounds = 0  # of swaps, windows and annealing
+        self.rounds = self.anneals = 0  # of all kinds, and of annealing
+        self.by_windows = self.by_annealing = math.inf  # what each gained last
+        self.was_windows = False
         self.pace = 0.0  # seconds that annealing took for each of its tries
         self.end = self.kept.end()
         self.bound = self.kept.bound()
@@ -322,21 +325,33 @@ class Search:
             stale = stale + 1 if self.found.npv - before <= _NOTHING * abs(before) else 0
 
     def one_round(self, seed: int) -> None:
-        """One round: of swaps, after some of these of windows or, in turns with them, of annealing; and of
-        rebuilding."""
-        assert self.plan is not None
-        self.rounds += 1
-        anneals, turn = divmod(self.rounds - _SWAPS, len(_WIDTHS) + 1)
+        """One round: of swaps, and after some of these of windows or of annealing, whichever gained more the last
+        time; and of rebuilding."""
+        assert self.plan is not None and self.found.npv is not None and self.end is not None
+        self.rounds, before = self.rounds + 1, self.found.npv
+        is_for_windows = self.is_for_windows
         if self.rounds <= _SWAPS:
             self.tell("swaps between neighbouring periods")
             self.take(self.sorting.swapped(self.plan, _TRIES, seed))
-        elif turn:
+        elif is_for_windows:
             self.tell("windows of a few periods, by HiGHS")
-            self.take(self.windows.bettered(self.plan, _WIDTHS[turn - 1], seed))
+            for width in _WIDTHS:
+                if self.found.gap > self.end.gap:
+                    self.take(self.windows.bettered(self.plan, width, seed))
+            self.by_windows, self.was_windows = float(self.found.npv - before), True
         else:
             self.tell("annealing: swaps of which some lose")
-            self.anneal(anneals, seed)
+            self.anneals += 1
+            self.anneal(self.anneals, seed)
+            self.by_annealing, self.was_windows = (self.found.npv - before) / _DEARER, False
         self.take(self.sorting.rebuilt(self.plan, self.rebuilds, seed))
+
+    @property
+    def is_for_windows(self) -> bool:
+        """Whether windows come next: both are tried, and where neither gains they take turns."""
+        if self.by_windows == self.by_annealing:
+            return not self.was_windows
+        return self.by_windows > self.by_annealing
 
     def anneal(self, times: int, seed: int) -> None:
         """Annealing, each half as long again as the one before up to a limit, and no longer than the time

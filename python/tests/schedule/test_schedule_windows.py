@@ -224,7 +224,7 @@ def test_it_ends_with_the_time(monkeypatch):
 def test_more_units_are_opened_where_highs_ends_and_fewer_where_it_is_ended(monkeypatch):
     made = made_of(9, {})
     orders, plan = begun(made)
-    for status, sizes in ((0, [225, 337.5]), (1, [75, 60])):
+    for status, sizes in ((0, [450, 675]), (1, [150, 75])):
         monkeypatch.setattr(
             windows, "milp", lambda *_, **__: SimpleNamespace(x=None, status=status)
         )
