@@ -30,7 +30,7 @@ KNOWN = {
     **dict.fromkeys(("456", "456.9"), "blocks that a year's mill has room for"),
     **dict.fromkeys(("0.24", "0.11", "0.39"), "percent, of pits of a year alone"),
     "4,123": "blocks of one body",
-    **dict.fromkeys(("0.198", "0.475", "173", "2.773"), "of earlier builds"),
+    **dict.fromkeys(("0.196", "0.198", "0.475", "173", "2.773"), "of other runs"),
     **dict.fromkeys(("360", "3,600"), "processor seconds of two processors"),
 }
 
