@@ -37,12 +37,13 @@ _REBUILDS = 100  # tries of a round to dig other units, at most
 _REBUILT = 10_000  # units that they go over together
 _SWAPS = 3  # rounds of swaps, after which come windows
 _WIDTHS = (2, 3, 2)  # periods of the windows of each pass of a round
+_IDLE = 2  # rounds of windows that gain nothing, after which these wait until something else does
 _DEARER = 3  # times what a round of windows takes, that annealing does, about
 _LEAST, _MOST = 150, 4000  # swaps between each two periods at each temperature of the first one
 _LONGER = 1.5  # times that each annealing is longer than the one before
 _OFTEN = 4  # how often it gets longer
 _OF_LEFT = 0.9  # of the time that is left, which annealing may take
-_STALE = 7  # rounds in a row that bring next to nothing, after which the search ends
+_STALE = 8  # rounds in a row that bring next to nothing, after which the search ends
 _LONGEST = 1e9  # seconds of a search
 _NOTHING = 2e-6  # of the worth: what counts as next to nothing
 
@@ -129,7 +130,7 @@ class Search:
         self.plan: Timetable | None = None
         self.rounds = self.anneals = 0  # of all kinds, and of annealing
         self.by_windows = self.by_annealing = math.inf  # what each gained last
-        self.was_windows = False
+        self.was_windows, self.idle = False, 0  # rounds of windows since something was gained
         self.pace = 0.0  # seconds that annealing took for each of its tries
         self.end = self.kept.end()
         self.bound = self.kept.bound()
@@ -329,7 +330,7 @@ class Search:
         time; and of rebuilding."""
         assert self.plan is not None and self.found.npv is not None and self.end is not None
         self.rounds, before = self.rounds + 1, self.found.npv
-        is_for_windows = self.is_for_windows
+        is_for_windows = self.rounds > _SWAPS and self.is_for_windows
         if self.rounds <= _SWAPS:
             self.tell("swaps between neighbouring periods")
             self.take(self.sorting.swapped(self.plan, _TRIES, seed))
@@ -345,12 +346,13 @@ class Search:
             self.anneal(self.anneals, seed)
             self.by_annealing, self.was_windows = (self.found.npv - before) / _DEARER, False
         self.take(self.sorting.rebuilt(self.plan, self.rebuilds, seed))
+        self.idle = self.idle + is_for_windows if self.found.npv == before else 0
 
     @property
     def is_for_windows(self) -> bool:
         """Whether windows come next: both are tried, and where neither gains they take turns."""
-        if self.by_windows == self.by_annealing:
-            return not self.was_windows
+        if self.by_windows == self.by_annealing or self.idle >= _IDLE:
+            return not self.was_windows and self.idle < _IDLE
         return self.by_windows > self.by_annealing
 
     def anneal(self, times: int, seed: int) -> None:

@@ -28,7 +28,7 @@ from .units import rows_of
 _FEWEST, _FIRST, _MOST = 60, 300, 3000  # units that are opened
 _MORE, _LESS = 1.5, 0.5  # times that, where HiGHS ended and found nothing, or was ended
 _MOST_FOLLOW = 300  # units that go with one that is opened, at most
-_NODES = 200  # of the tree of one window, so that its size and not the time ends it
+_NODES = 100  # of the tree of one window, so that its size and not the time ends it
 _SECONDS = 8.0  # of one window, at most
 _NEAR = 1e-7  # of the schedule's worth, to which a window is solved
 _MOST_GAP = 0.01  # of the window's worth, likewise

@@ -131,13 +131,13 @@ def rounds_of(search, gains):
 @pytest.mark.parametrize(
     "gains, order",
     [
-        ({}, "wawawa"),
+        ({}, "wawaaa"),
         ({"w": [900] * 9, "a": [300]}, "wawwww"),
         ({"w": [1], "a": [9000, 8000, 3, 2]}, "waaawa"),
     ],
 )
 def test_what_gained_more_goes_on(tmp_path, gains, order):
-    """Windows and annealing are both tried; where neither gains they take turns."""
+    """Windows and annealing are both tried; where neither gains they take turns, until windows have gained nothing twice."""
     search = Search(tmp_path, TinyMine(2, **BOTH).production, Pit())
     search.plan, search.end = search.sorting.by_shells(), searching.End("killed", 0.0, 1.0)
     search.found = searching.Found(bound=10**9, npv=10**8)
