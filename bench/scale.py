@@ -631,12 +631,14 @@ def show_schedules(path):
             f"{row['bound']:,.1f}",
             f"{row['gap']:.3f} %",
             f"{row['cpu_s']:,.0f}",
+            f"{row['wall_s']:,.0f}",
+            f"{row['load']:.0f}",
             f"{row['memory_mb']:,.0f}",
         ]
         for row in pd.read_csv(path).to_dict("records")
     ]
     head = ["", "blocks", "in the pit", "years", "closures", "npv", "bound", "below it", "s"]
-    head.append("memory MB")
+    head += ["clock s", "load", "memory MB"]
     lines(head, rows)
 
 

@@ -91,7 +91,7 @@ def walked(study):
     for command in ("build", "slopes", "shells"):
         pitplan(command, study)
     graph, plan, section = pitplan("plot", study)
-    years, _, by_year = pitplan("schedule", study)
+    years, _, by_year, *_ = pitplan("schedule", study)
     pitplan("compare", study, "--surface", TOP / "examples/hill-design.dxf", may_refuse=True)
     design = next((study / "out/compare-hill-design").glob("plan-*.png"))
     pitplan("phases", study, "0.4,1.0", "--widen", "40")

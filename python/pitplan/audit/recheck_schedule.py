@@ -635,10 +635,11 @@ def check_terms(mine: Mine, periods: Periods, asked: Asked) -> None:
     wanted = asked.weights(count)
     for t, (weight, ours) in enumerate(zip(periods.weights, wanted)):
         need(weight == ours, f"period {t + 1} weighs {weight}, and by study.toml {ours}")
-    names = resources_of(recheck.treatments_of(recheck.economics_of()))
+    names, parts = resources_of(recheck.treatments_of(recheck.economics_of())), parts_of(periods)
     for resource, (name, row) in enumerate(zip(names, periods.capacities)):
         for t, room in enumerate(row):
             ours = asked.room(resource, t) if asked.rates[resource] else totals[resource]
+            ours -= ours % parts[resource]
             need(room == ours, f"period {t + 1} has {room} of {name}, and by study.toml {ours}")
     panel = asked.terms.get("panel", 1)
     square = {
@@ -650,6 +651,15 @@ def check_terms(mine: Mine, periods: Periods, asked: Asked) -> None:
         len(pairs) == len({unit for unit, _ in pairs}) == len({place for _, place in pairs}),
         "units.txt isn't the panels of study.toml",
     )
+
+
+def parts_of(periods: Periods) -> list[int]:
+    """Of each resource the greatest amount of which all that a unit uses, or a block that may be sent, is a multiple.
+    Units are dug whole, so no schedule fills more of a capacity than a multiple of it."""
+    rows = least_uses(periods, 1 + max(periods.unit.values()))
+    if chooses(periods):
+        rows[1:] = [[uses[block] for block in periods.unit] for uses in periods.uses[1:]]
+    return [math.gcd(*row) or 1 for row in rows]
 
 
 def resources_of(ways: list[recheck.Treatment]) -> list[str]:

@@ -37,7 +37,7 @@ class End:
     seconds : float
         That it might take.
     rounds : int
-        Of moves, swaps and annealing, the last ones, that brought next to nothing.
+        Of swaps, windows and annealing, the last ones, that brought next to nothing.
     """
 
     why: str
@@ -69,7 +69,7 @@ class End:
         if self.why == ROUNDS:
             return (
                 "the search ended because no move gained any more: nothing better came after"
-                f" {counted(self.rounds, 'round')} of swaps and annealing; the same command tries"
+                f" {counted(self.rounds, 'round')} of swaps, windows and annealing; the same command tries"
                 " others"
             )
         if self.why == ALL:

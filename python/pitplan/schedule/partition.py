@@ -154,7 +154,7 @@ class Program(NamedTuple):
             _by_period(cluster, millable.unit, uses, feeds) / GRAINS
             for uses, feeds in zip(production.uses, feeds_by_row)
         ]
-        order = _differences(_cluster_pairs(production, cluster, count), count)
+        order = differences(_cluster_pairs(production, cluster, count), count)
         gains = worths.T @ (production.weights / _MILLION)
         limits = production.capacities / GRAINS
         table = vstack([*rows, order])
@@ -226,7 +226,7 @@ def _by_period(cluster: Clusters, home: Ints, of_units: Array, of_sent: Array) -
     return csr_matrix(np.array(rows))
 
 
-def _differences(pairs: tuple[Ints, Ints], count: int) -> csr_matrix:
+def differences(pairs: tuple[Ints, Ints], count: int) -> csr_matrix:
     """A row for each pair of clusters: the share of the first less that of the second."""
     low, high = pairs
     rows, ones = np.arange(len(low)), np.ones(len(low))

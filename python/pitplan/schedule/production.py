@@ -112,12 +112,15 @@ class Production:
 
     @cached_property
     def capacities(self) -> Ints:
-        """Of shape (resources, periods); what nothing limits has room for all."""
+        """Of shape (resources, periods); what nothing limits has room for all. Units are dug whole, so of each
+        capacity counts what they may fill: a multiple of the greatest amount of which all that they use is one.
+        """
         found = np.zeros((len(self.uses), self.periods), np.int64)
-        feed = int(self.millable.feeds.sum())
         for row, told in enumerate(self.terms.capacities):
-            more = feed if row == 1 else 0  # those that may be sent take feed of the mill
-            found[row] = told if told else int(self.uses[row].sum()) + more
+            feeds = self.millable.feeds if row == 1 else self.millable.feeds[:0]
+            used = np.append(self.uses[row], feeds)  # those that may be sent take feed of the mill
+            part = max(int(np.gcd.reduce(used)), 1)
+            found[row] = np.array(told) // part * part if told else int(used.sum())
         return found
 
     @cached_property

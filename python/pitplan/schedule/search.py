@@ -27,6 +27,7 @@ from .sorting import Sorting
 from .terms import MILLION
 from .unit_texts import UnitTexts
 from .whole_units import by_whole_units, is_small
+from .windows import Windows
 
 _BOUND_PART = 0.6  # of the time, that the bound may take
 _NEAR = 0.01  # of the gap asked for, to which the bound comes to the relaxation
@@ -34,8 +35,11 @@ _NEAREST = 1e-5
 _TRIES = 2000  # swaps between each two periods in a round
 _REBUILDS = 100  # tries of a round to dig other units, at most
 _REBUILT = 10_000  # units that they go over together
-_SWAPS = 3  # rounds of swaps before each annealing
-_LEAST, _MOST = 150, 12_000  # swaps between each two periods at each temperature of the first one
+_SWAPS = 3  # rounds of swaps, after which come windows
+_WIDTHS = (2, 3, 2)  # periods of the windows of each pass of a round
+_IDLE = 2  # rounds of windows that gain nothing, after which these wait until something else does
+_DEARER = 3  # times what a round of windows takes, that annealing does, about
+_LEAST, _MOST = 150, 4000  # swaps between each two periods at each temperature of the first one
 _LONGER = 1.5  # times that each annealing is longer than the one before
 _OFTEN = 4  # how often it gets longer
 _OF_LEFT = 0.9  # of the time that is left, which annealing may take
@@ -120,10 +124,13 @@ class Search:
             UnitTexts(production) if production.is_plain else Expanded(production)
         )
         self.sorting = Sorting(production)
+        self.windows = Windows(self.sorting)
         self.told, self.found = told, Found()
         self.rebuilds = min(_REBUILDS, _REBUILT // production.units)
         self.plan: Timetable | None = None
-        self.rounds = 0  # of swaps and annealing
+        self.rounds = self.anneals = 0  # of all kinds, and of annealing
+        self.by_windows = self.by_annealing = math.inf  # what each gained last
+        self.was_windows, self.idle = False, 0  # rounds of windows since something was gained
         self.pace = 0.0  # seconds that annealing took for each of its tries
         self.end = self.kept.end()
         self.bound = self.kept.bound()
@@ -300,8 +307,8 @@ class Search:
             yield shares_of(cluster, relaxed), relaxed.multipliers
 
     def swap(self, gap: float, ends: float) -> str:
-        """Swaps between neighbouring periods in rounds, then annealing, longer each time, until these
-        bring next to nothing. Gives why it ended."""
+        """Swaps between neighbouring periods in rounds, then windows of these in turns with annealing, longer
+        each time, until all bring next to nothing. Gives why it ended."""
         stale, seed = 0, int(self.kept.arrays("swaps").get("seed", np.array(0)))
         while True:
             if self.found.gap <= gap:
@@ -319,18 +326,34 @@ class Search:
             stale = stale + 1 if self.found.npv - before <= _NOTHING * abs(before) else 0
 
     def one_round(self, seed: int) -> None:
-        """One round: of swaps, or after some of these of annealing, each longer than the one before;
-        and of rebuilding."""
-        assert self.plan is not None
-        self.rounds += 1
-        anneals, rest = divmod(self.rounds, _SWAPS + 1)
-        if rest:
+        """One round: of swaps, and after some of these of windows or of annealing, whichever gained more the last
+        time; and of rebuilding."""
+        assert self.plan is not None and self.found.npv is not None and self.end is not None
+        self.rounds, before = self.rounds + 1, self.found.npv
+        is_for_windows = self.rounds > _SWAPS and self.is_for_windows
+        if self.rounds <= _SWAPS:
             self.tell("swaps between neighbouring periods")
             self.take(self.sorting.swapped(self.plan, _TRIES, seed))
+        elif is_for_windows:
+            self.tell("windows of a few periods, by HiGHS")
+            for width in _WIDTHS:
+                if self.found.gap > self.end.gap:
+                    self.take(self.windows.bettered(self.plan, width, seed))
+            self.by_windows, self.was_windows = float(self.found.npv - before), True
         else:
             self.tell("annealing: swaps of which some lose")
-            self.anneal(anneals, seed)
+            self.anneals += 1
+            self.anneal(self.anneals, seed)
+            self.by_annealing, self.was_windows = (self.found.npv - before) / _DEARER, False
         self.take(self.sorting.rebuilt(self.plan, self.rebuilds, seed))
+        self.idle = self.idle + is_for_windows if self.found.npv == before else 0
+
+    @property
+    def is_for_windows(self) -> bool:
+        """Whether windows come next: both are tried, and where neither gains they take turns."""
+        if self.by_windows == self.by_annealing or self.idle >= _IDLE:
+            return not self.was_windows and self.idle < _IDLE
+        return self.by_windows > self.by_annealing
 
     def anneal(self, times: int, seed: int) -> None:
         """Annealing, each half as long again as the one before up to a limit, and no longer than the time

@@ -57,7 +57,7 @@ def test_no_move_that_gains(search, monkeypatch):
     monkeypatch.setattr(searching, "is_small", lambda _: False)
     search.run(0.0, FOREVER)
     assert search.end.why == ROUNDS
-    assert f"after {search.end.rounds} rounds of swaps and annealing" in search.end.words
+    assert f"after {search.end.rounds} rounds of swaps, windows and annealing" in search.end.words
     assert search.end.rounds >= 2
     assert "after 1 round of" in replace(search.end, rounds=1).words
 

@@ -107,3 +107,38 @@ def test_no_more_of_a_certificate_is_handed_on_when_the_time_is_over(tmp_path, m
     with pytest.raises(process.OutOfTime):
         Pit(eats).told_of(["check"], certificate, lines, seconds=3.0)
     assert len(taken) == 2
+
+
+def rounds_of(search, gains):
+    """Of each round behind the swaps a w for windows and an a for annealing, where the rounds of each gain so much."""
+    found, left = [], {kind: list(each) for kind, each in gains.items()}
+
+    def step(kind):
+        if not search.rounds_seen or search.rounds_seen[-1][0] != search.rounds:
+            search.rounds_seen.append((search.rounds, kind))
+            more = left[kind].pop(0) if left.get(kind) else 0
+            search.found = searching.replace(search.found, npv=search.found.npv + more)
+
+    search.rounds_seen = found
+    search.anneal = lambda times, seed: step("a")
+    search.sorting = SimpleNamespace(swapped=lambda *_: None, rebuilt=lambda *_: None)
+    search.windows = SimpleNamespace(bettered=lambda *_: step("w"))
+    for seed in range(searching._SWAPS + 6):
+        search.one_round(seed)
+    return "".join(kind for _, kind in found)
+
+
+@pytest.mark.parametrize(
+    "gains, order",
+    [
+        ({}, "wawaaa"),
+        ({"w": [900] * 9, "a": [300]}, "wawwww"),
+        ({"w": [1], "a": [9000, 8000, 3, 2]}, "waaawa"),
+    ],
+)
+def test_what_gained_more_goes_on(tmp_path, gains, order):
+    """Windows and annealing are both tried; where neither gains they take turns, until windows have gained nothing twice."""
+    search = Search(tmp_path, TinyMine(2, **BOTH).production, Pit())
+    search.plan, search.end = search.sorting.by_shells(), searching.End("killed", 0.0, 1.0)
+    search.found = searching.Found(bound=10**9, npv=10**8)
+    assert rounds_of(search, gains) == order

@@ -25,7 +25,13 @@ KNOWN = {
     **dict.fromkeys(("1,123", "398", "127"), "units of three small mines"),
     **dict.fromkeys(("0.02", "0.55", "3.65"), "percent that no search of them can close"),
     **dict.fromkeys(("0.10", "8.1", "10.4", "0.17", "0.08", "1.64"), "percent below their bounds"),
-    **dict.fromkeys(("0.0002", "0.014", "0.46", "0.33", "0.31"), "percent, of 10k"),
+    **dict.fromkeys(("0.03", "0.31", "0.43"), "percent, of one kind of step"),
+    **dict.fromkeys(("0.003", "0.062"), "percent, by what whole blocks fill"),
+    **dict.fromkeys(("456", "456.9"), "blocks that a year's mill has room for"),
+    **dict.fromkeys(("0.24", "0.11", "0.39"), "percent, of pits of a year alone"),
+    "4,123": "blocks of one body",
+    **dict.fromkeys(("0.196", "0.198", "0.475", "173", "2.773"), "of other runs"),
+    **dict.fromkeys(("360", "3,600"), "processor seconds of two processors"),
 }
 
 
