@@ -3,6 +3,7 @@
 later).
 
     python3 plainly.py (--prec FILE --upit FILE | [--prec FILE] --blocks FILE --settings FILE) CERTIFICATE ..
+    python3 plainly.py --upit FILE --blocks FILE --settings FILE CERTIFICATE ..
 
 The answer to each is a line as `pit check` prints it: ACCEPTED count worth (status 0), REFUSED why
 (1), or fault: certificate why (3); the status of several is the greatest. The model is read once. A
@@ -115,9 +116,9 @@ def millionths(field: bytes, where: str) -> int:
 class Settings:
     """The columns of a priced model, of lines KEY = NUMBER, and its slopes where it has some: the
     offsets of each region, the column of regions, and which way is up. Other keys of pit's settings
-    aren't looked at."""
+    aren't looked at, and columns of prices neither where values have a file of their own."""
 
-    def __init__(self, name: str) -> None:
+    def __init__(self, name: str, has_prices: bool = True) -> None:
         self.name, found = name, dict[str, int]()
         with open(name, encoding="utf-8") as file:
             text = "".join(line.split("#")[0].rstrip() + "\n" for line in file)
@@ -131,7 +132,7 @@ class Settings:
         at = SLOPES.search(text)
         self.slopes = None if at is None else self.listed(text[at.end() :])
         self.region = found.get("region")
-        self.columns = self.prices(found, WAYS.search(text))
+        self.columns = self.prices(found, WAYS.search(text)) if has_prices else []
 
     def prices(self, found: dict[str, int], ways: re.Match[str] | None) -> list[int]:
         """The columns of prices: revenue and processing of each way to treat a block, and behind
@@ -206,7 +207,7 @@ class Blocks:
             where = "%s, line %d" % (name, number)
             if len(kept) >= MOST_BLOCKS:
                 raise Wrong(where + ": too many blocks")
-            if len(fields) <= 4 + max(wanted):
+            if len(fields) <= 4 + max(wanted, default=-1):
                 raise Wrong(where + ": a column is missing")
             block = whole(fields[0], 1 << 64, where)
             if block in kept:
@@ -523,19 +524,24 @@ class Model:
     their predecessors, by a list or by the slopes of its settings."""
 
     def __init__(self, options: argparse.Namespace) -> None:
-        self.values = read_values(options.upit) if options.upit else None
+        self.values: list[int] | None = None
         self.table: list[list[int]] = []
-        if self.values is not None:
+        if not options.settings:
+            self.values = read_values(options.upit)
             self.rests: Predecessors | Above = Predecessors(options.prec, len(self.values))
             self.count = len(self.values)
             return
-        settings = Settings(options.settings)
+        settings = Settings(options.settings, not options.upit)
         if options.prec is None and settings.slopes is None:
             raise Slope("fault: settings Missing(slopes)")
         if options.prec is not None and settings.slopes is not None:
             raise Slope("fault: settings Unused(slopes)")
         blocks = Blocks(options.blocks, settings.columns, settings.region)
         self.table, self.count = blocks.table, len(blocks.places)
+        if options.upit:
+            self.values = read_values(options.upit)
+            if len(self.values) != self.count:
+                raise Wrong("%s has another number of blocks" % options.upit)
         self.rests = (
             Above(blocks, settings)
             if options.prec is None
@@ -581,10 +587,10 @@ def main() -> int:
         reading.add_argument("--" + name)
     reading.add_argument("certificates", nargs="+", metavar="certificate")
     options = reading.parse_args()
-    if bool(options.upit) == bool(options.blocks) or bool(options.blocks) != bool(options.settings):
-        reading.error("either --upit, or --blocks and --settings")
-    if options.upit and not options.prec:
-        reading.error("beside --upit, --prec says what rests on what")
+    if bool(options.blocks) != bool(options.settings) or not (options.upit or options.blocks):
+        reading.error("either --upit, or --blocks and --settings, or all three")
+    if options.upit and bool(options.prec) == bool(options.settings):
+        reading.error("beside --upit, either --prec or settings say what rests on what")
     worst = 0
     try:
         model = Model(options)
