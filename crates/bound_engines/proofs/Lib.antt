@@ -1,7 +1,7 @@
+pub mod Falling
+pub mod WayNodes
 pub mod Bounded
-pub mod PlannedTexts
-pub mod TextsBeside
+pub mod Within
+pub mod PitsTold
 pub mod Answered
-pub mod PlanSolved
-pub mod GapsTold
-pub mod TextsFailing
+pub mod MostWorth

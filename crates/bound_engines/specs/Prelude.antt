@@ -1,9 +1,10 @@
 -- The names of this crate that its proofs and the crates above it use, each from its own file.
-pub use Rattle.bound_engines.specs.BesideTexts.{BesideCanCount, ForBeside, IsBesideRead, beside_failures}
-pub use Rattle.bound_engines.specs.BoundLines.{Bounds, bound_line, nodes_problem_line, nodes_problem_text, told_line, verdict_told}
-pub use Rattle.bound_engines.specs.Bounded.{DenotePlan, IsBounded, IsExpanded, IsJudgedOf, IsRefusal, IsToldFor, IsToldOf, node_net, nodes_mine, priced_by}
-pub use Rattle.bound_engines.specs.GapTexts.{IsComparedRead}
-pub use Rattle.bound_engines.specs.Gaps.{IsBelow, IsCompared}
-pub use Rattle.bound_engines.specs.GapLines.{Compares, WritesBelow, WritesUnbounded, compared_text, compared_verdict, gap_line, gap_text}
-pub use Rattle.bound_engines.specs.TextFaults.{BesideFails, ComparedFails, IsBeyondTexts, IsTextFault, PricedPeriodsFail, PricesMissing, StandsInTexts}
-pub use Rattle.bound_engines.specs.PlanSolving.{AnswersPlan, IsPlanCertificate, IsPlanNet, SolvesNodes, SolvesPlan, WritesPlanFront}
+pub use Rattle.bound_engines.specs.Pits.{CertificatesCanCount, ForCertificates, ForPit, IsGiven, IsPartBy, IsPitOf}
+pub use Rattle.bound_engines.specs.Pits.{PartView, PitCanCount, certificate_failures, pit_failures, treated_over}
+pub use Rattle.bound_engines.specs.Pits.{waits_over}
+pub use Rattle.bound_engines.specs.Bounded.{DenotePlan, IsBounded, IsJudgedOf, IsRefusal, IsToldBy, IsToldFor, IsToldIn}
+pub use Rattle.bound_engines.specs.Bounded.{IsToldOf, IsToldOver, left_at_most, left_by_way, node_net, nodes_mine}
+pub use Rattle.bound_engines.specs.Bounded.{priced_by, treated_nodes}
+pub use Rattle.bound_engines.specs.BoundLines.{Bounds, bound_line, told_line, verdict_told}
+pub use Rattle.bound_engines.specs.Parts.{IsKeptBy, IsKeptIn, IsKeptPart, IsNoPit, IsPart, IsParted, IsPartedOf}
+pub use Rattle.bound_engines.specs.Parts.{IsPitMine, IsPitTold, IsSoundPart, IsToldAt}

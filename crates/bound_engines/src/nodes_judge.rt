@@ -4,20 +4,22 @@ ghost use Rattle.std.specs.Prelude.{◌≡◌, ◌↔◌, ◌+◌, ◌-◌, ◌^
 ghost use Rattle.ordered_group.specs.declared.groups.Group.TheVariants as group;
 ghost use Rattle.check_pit.specs.CertStreams.{IsReadFor};
 ghost use Rattle.check_pit.specs.declared.stream_fault.StreamFault.TheVariants as stream;
-ghost use Rattle.engines.specs.Judging.{IsFresh, IsUndecided, factor_in};
-ghost use Rattle.mine_inputs.specs.declared.engine_fault.EngineFault.TheVariants as engine;
-ghost use Rattle.schedule_engines.specs.declared.schedule_fault.PlanFault.TheVariants as plan;
-ghost use Rattle.bound_engines.specs.declared.bound_fault.BoundFault.TheVariants as bound;
+ghost use Rattle.check_engines.specs.Judging.{IsFresh, IsUndecided, factor_in};
+ghost use Rattle.engine_faults.specs.declared.engine_fault.EngineFault.TheVariants as engine;
+ghost use Rattle.schedule_engines.specs.declared.plan_fault.PlanFault.TheVariants as plan;
+ghost use Rattle.planned_mine.specs.declared.bound_fault.BoundFault.TheVariants as bound;
 ghost use Rattle.bound_engines.specs.Bounded.{IsJudgedOf, IsRefusal};
-ghost use Rattle.bound_engines.specs.TextFaults.{IsBeyondTexts};
+ghost use Rattle.planned_mine.specs.TextFaults.{IsBeyondTexts};
 
-use crate::bound_fault::{BoundFault, of_net};
-use check_pit::{CertFault, CertStream, PitFault, Room, StreamFault, check_graph};
-use closure_net::Graph;
-use fixed_worth::CountedRead;
-use mine_inputs::{CertificateProblem, EngineFault, Worths};
+use check_pit::{
+    CertFault, CertStream, HeldGraph, PitFault, Room, StreamFault, check_held, graph_of_worths,
+};
+use counted_devices::CountedRead;
+use engine_faults::{CertificateProblem, EngineFault};
+use held_pairs::HeldPairs;
+use mine_inputs::Worths;
 use ordered_group::{Group, Worth};
-use prec_file::Predecessors;
+use planned_mine::{BoundFault, of_net};
 use schedule_engines::PlanFault;
 use shells::Factor;
 use std::alloc::Global;
@@ -31,8 +33,8 @@ pub(crate) enum NodesJudged {
     Refused(PitFault),
 }
 
-// A fault of the certificate.
-fn of_certificate(problem: CertificateProblem) -> BoundFault
+/// A fault of the certificate.
+pub fn of_certificate(problem: CertificateProblem) -> BoundFault
     ensures beyond { IsBeyondTexts result }
     ensures no_device { ¬ (result ≡ bound.Plan (plan.Engine engine.Device)) }
 {
@@ -41,7 +43,8 @@ fn of_certificate(problem: CertificateProblem) -> BoundFault
 
 // What is answered to a fault of a certificate; one of its pit is a judgement.
 fn judged_of(fault: StreamFault) -> Result<NodesJudged, BoundFault>
-    ensures device { IsErrOf result (bound.Plan (plan.Engine engine.Device)) ↔ fault ≡ stream.Device }
+    ensures device { IsErrOf result (bound.Plan (plan.Engine engine.Device))
+        ↔ fault ≡ stream.Device }
     ensures refused { IfOk result IsRefusal }
     ensures beyond { IfErr result IsBeyondTexts }
 {
@@ -57,7 +60,7 @@ fn judged_of(fault: StreamFault) -> Result<NodesJudged, BoundFault>
 }
 
 // What is answered to a fault of a certificate's header.
-fn header_fault(fault: StreamFault) -> BoundFault
+pub(crate) fn header_fault(fault: StreamFault) -> BoundFault
     ensures beyond { IsBeyondTexts result }
     ensures device { result ≡ bound.Plan (plan.Engine engine.Device) ↔ fault ≡ stream.Device }
 {
@@ -108,38 +111,38 @@ pub(crate) fn factor_from<C: CountedRead>(
     }
 }
 
-/// What the certificate proves of nodes with these predecessors and worths, where its header was read.
+/// What the certificate proves of nodes with these pairs and worths, where its header was read.
 ///
 /// # Errors
 /// `Certificate` with the first fault after the header; `Nodes` where a sum of the net doesn't fit; `Device` where a
 /// read fails, and `Memory` where memory is refused.
 pub(crate) fn judge_nodes<C: CountedRead>(
     alloc: Global,
-    pairs: Predecessors,
+    pairs: &HeldPairs,
     worths: &[i128],
     stream: &mut CertStream<C>,
 ) -> Result<NodesJudged, BoundFault>
     requires count { C.failed stream.old.lines.from < 2 ^ 64 - 1 }
     requires open { IsUndecided stream.old }
-    requires header { IsReadFor pairs.blocks group.Worth stream.old.header stream.old.fault }
-    ensures is { IfOk result (IsJudgedOf pairs worths.now) }
+    requires header { IsReadFor pairs.now.blocks group.Worth stream.old.header stream.old.fault }
+    ensures is { IfOk result (IsJudgedOf pairs.now worths.now) }
     ensures device { IsErrOf result (bound.Plan (plan.Engine engine.Device))
         → C.failed stream.new.lines.from ≡ C.failed stream.old.lines.from + 1 }
     ensures kept { ¬ IsErrOf result (bound.Plan (plan.Engine engine.Device))
         → C.failed stream.new.lines.from ≡ C.failed stream.old.lines.from }
     ensures beyond { IfErr result IsBeyondTexts }
 {
-    let graph = match Graph::<Worth>::of_worths(alloc, pairs, worths) {
+    let graph = match graph_of_worths::<Worth>(alloc, pairs, worths) {
         Ok(graph) => graph,
         Err(fault) => return Err(of_net(fault)),
     };
-    let net = graph.as_ref();
+    let net = HeldGraph::with_pairs(graph.as_ref(), pairs);
     // proof: what is known of every net, that its pairs are of its blocks and in order
     let _worths = net.worths();
     let Ok(mut room) = Room::<Worth>::of_blocks(alloc, net.len()) else {
         return Err(BoundFault::Plan(PlanFault::Engine(EngineFault::Memory)));
     };
-    match check_graph(stream, net, &mut room) {
+    match check_held(stream, net, &mut room) {
         Ok(accepted) => Ok(NodesJudged::Richest(accepted.worth().nanos)),
         Err(fault) => judged_of(fault),
     }

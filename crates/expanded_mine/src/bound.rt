@@ -1,13 +1,13 @@
 //! The bound on the worth of every schedule that a richest pit of the expanded mine gives.
 
-ghost use Rattle.std.specs.Prelude.{◌≡◌, ◌<◌, ℕ, Bool, List, pos, ◌+ℤ◌, ◌*ℤ◌, length, IfSome};
+ghost use Rattle.std.specs.Prelude.{◌≡◌, ◌<◌, ℕ, Bool, List, pos, ◌+ℤ◌, ◌*ℤ◌, length, All, IfSome};
 ghost use Rattle.closure_net.specs.Mine.{IsRichest, worth_of};
 ghost use Rattle.prec_file.specs.Rests.{has_pair};
 ghost use Rattle.schedules.specs.Expanded.{price_of_capacities, sum_below};
-ghost use Rattle.production_figures.specs.Figures.{production_of, capacity_by};
-ghost use Rattle.expanded_mine.specs.Bounds.{IsBound};
-ghost use Rattle.expanded_mine.specs.Nodes.{price_by};
-ghost use Rattle.expanded_mine.specs.Waiting.{waiting_mine};
+ghost use Rattle.production_figures.specs.Figures.{FiguresView, production_of, capacity_by};
+ghost use Rattle.expanded_mine.specs.Bounds.{IsTreatedBound, treated_by};
+ghost use Rattle.expanded_mine.specs.Nodes.{IsWayOf, most_left, price_by};
+ghost use Rattle.expanded_mine.specs.Waiting.{treated_mine_of};
 
 use crate::node_worths::{price_at, with_product};
 use production_figures::Figures;
@@ -38,8 +38,10 @@ fn sum_of(first: i128, second: i128) -> Option<i128>
 
 // What all capacities come to at their prices.
 fn price_of_all(figures: &Figures, prices: &[u64]) -> Option<i128>
-    ensures { IfSome result (λ sum. sum ≡ sum_below (λ r. sum_below (λ t. capacity_by figures.now r t *ℤ pos
-        (price_by figures.now prices.now r t)) (length figures.now.weights)) figures.now.resources) }
+    ensures { IfSome result
+        (λ sum. sum ≡ sum_below (λ r. sum_below (λ t. capacity_by figures.now r t *ℤ pos
+        (price_by figures.now prices.now r t)) (length figures.now.weights))
+        figures.now.resources) }
 {
     let mut sum: i128 = 0;
     for r in 0..figures.resources() {
@@ -56,13 +58,22 @@ fn price_of_all(figures: &Figures, prices: &[u64]) -> Option<i128>
 
 /// The bound that a pit of the expanded mine gives which is worth so many billionths of millionths: this with all
 /// capacities at their prices, or `None` where it leaves 128 bits. If no pit of the expanded mine is worth more, no
-/// feasible schedule is that keeps its waits.
+/// feasible schedule is that keeps its waits, whichever ways its blocks go.
 pub fn bound_by(figures: &Figures, prices: &[u64], worth: i128) -> Option<i128>
-    ensures bound { IfSome result (λ bound. (pairs waits : List (ℕ × ℕ)) (lag : ℕ) (chosen : ℕ → Bool)
-        → IsRichest (waiting_mine (production_of pairs figures.now) (price_by figures.now prices.now) lag waits) chosen
-        → worth ≡ worth_of (waiting_mine (production_of pairs figures.now) (price_by figures.now prices.now) lag waits) chosen
-        → IsBound (production_of pairs figures.now) lag (has_pair waits) bound) }
-    ensures exact { IfSome result (λ bound. (pairs : List (ℕ × ℕ)) → bound ≡ worth +ℤ price_of_capacities
+    ensures bound { IfSome result
+        (λ bound. (others : List FiguresView) (pairs waits : List (ℕ × ℕ)) (lag : ℕ) (chosen : ℕ
+        → Bool)
+        → All (IsWayOf figures.now) others
+        → IsRichest
+        (treated_mine_of (treated_by pairs figures.now others)
+        (most_left figures.now others prices.now) lag waits) chosen
+        → worth
+        ≡ worth_of
+        (treated_mine_of (treated_by pairs figures.now others)
+        (most_left figures.now others prices.now) lag waits) chosen
+        → IsTreatedBound (treated_by pairs figures.now others) lag (has_pair waits) bound) }
+    ensures exact { IfSome result
+        (λ bound. (pairs : List (ℕ × ℕ)) → bound ≡ worth +ℤ price_of_capacities
         (production_of pairs figures.now) (price_by figures.now prices.now)) }
 {
     let Some(capacities) = price_of_all(figures, prices) else {

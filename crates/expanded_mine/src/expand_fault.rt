@@ -1,11 +1,11 @@
-//! Why there is no expanded mine.
+//! Why there is no expanded mine: too many nodes or pairs, a worth that doesn't fit, or no memory.
 
 /// Why there is no expanded mine.
 #[derive(Clone, Copy, Debug, PartialEq, Eq)]
 pub enum ExpandFault {
     /// There are more than 2^24 nodes: blocks times periods.
     TooManyNodes,
-    /// There are more than 2^27 pairs of nodes.
+    /// There are more than 2^36 pairs of nodes, or a block rests on more than 2^27 others.
     TooManyPairs,
     /// What a node is worth doesn't fit 128 bits.
     TooLarge,

@@ -1,8 +1,9 @@
-//! What the nodes of the expanded mine are worth.
+//! Computes what each node of the expanded mine is worth: what its block leaves in its period above the prices of what
+//! it uses, less what it leaves in the next one.
 
-ghost use Rattle.std.specs.Prelude.{◌≡◌, ◌<◌, ◌+◌, ◌*◌, ◌/◌, ◌%◌, pos, ◌+ℤ◌, ◌-ℤ◌, ◌*ℤ◌, length, IfOk, IfSome, OnOk, ◌++◌, ◌∷◌, []};
+ghost use Rattle.std.specs.Prelude.{◌≡◌, ◌<◌, ◌+◌, ◌*◌, ◌/◌, ◌%◌, pos, ◌+ℤ◌, ◌-ℤ◌, ◌*ℤ◌, length, IfOk, IfSome, OnOk, ◌++◌, ◌∷◌, [], All};
 ghost use Rattle.expanded_mine.specs.Lists.{AreNodeWorths};
-ghost use Rattle.expanded_mine.specs.Nodes.{charge_by, left_by, left_or_none, node_worth, price_by};
+ghost use Rattle.expanded_mine.specs.Nodes.{IsWayOf, charge_by, left_by, left_or_none, most_left, node_worth, price_by};
 ghost use Rattle.expanded_mine.specs.Waiting.{is_early, withheld};
 
 use crate::expand_fault::ExpandFault;
@@ -72,13 +73,40 @@ fn left_at(figures: &Figures, prices: &[u64], b: u32, t: u32) -> Option<i128>
     }
 }
 
-// What block b leaves in period t, and nothing from the end of the last period on.
-fn left_or_none_at(figures: &Figures, prices: &[u64], b: u32, t: u32) -> Option<i128>
+// What block b leaves in period t at most, whichever way it goes.
+fn most_at(figures: &Figures, others: &[Figures], prices: &[u64], b: u32, t: u32) -> Option<i128>
     requires block { b < length figures.now.worths }
-    ensures { IfSome result (λ left. left ≡ left_or_none figures.now prices.now b t) }
+    requires period { t < length figures.now.weights }
+    requires ways { All (IsWayOf figures.now) others.now }
+    ensures { IfSome result (λ left. left ≡ most_left figures.now others.now prices.now b t) }
+{
+    let mut most = match left_at(figures, prices, b, t) {
+        Some(left) => left,
+        None => return None,
+    };
+    for d in 0..others.len() {
+        match left_at(&others[d], prices, b, t) {
+            Some(left) => most = most.max(left),
+            None => return None,
+        }
+    }
+    Some(most)
+}
+
+// What a block leaves at most in a period, by any way; nothing from the end of the last period on.
+fn left_or_none_at(
+    figures: &Figures,
+    others: &[Figures],
+    prices: &[u64],
+    b: u32,
+    t: u32,
+) -> Option<i128>
+    requires block { b < length figures.now.worths }
+    requires ways { All (IsWayOf figures.now) others.now }
+    ensures { IfSome result (λ left. left ≡ left_or_none figures.now others.now prices.now b t) }
 {
     if t < figures.periods() {
-        left_at(figures, prices, b, t)
+        most_at(figures, others, prices, b, t)
     } else {
         Some(0)
     }
@@ -92,18 +120,25 @@ fn difference(first: i128, second: i128) -> Option<i128>
 }
 
 // What the node of block b and period t is worth.
-fn worth_of_node(figures: &Figures, prices: &[u64], b: u32, t: u32) -> Option<i128>
+fn worth_of_node(
+    figures: &Figures,
+    others: &[Figures],
+    prices: &[u64],
+    b: u32,
+    t: u32,
+) -> Option<i128>
     requires block { b < length figures.now.worths }
     requires period { t < length figures.now.weights }
-    ensures { IfSome result (λ worth. worth ≡ node_worth figures.now prices.now b t) }
+    requires ways { All (IsWayOf figures.now) others.now }
+    ensures { IfSome result (λ worth. worth ≡ node_worth figures.now others.now prices.now b t) }
 {
-    let now = match left_at(figures, prices, b, t) {
+    let now = match most_at(figures, others, prices, b, t) {
         Some(now) => now,
         None => return None,
     };
     // proof: there are few periods
     let _few = figures.periods();
-    match left_or_none_at(figures, prices, b, t + 1) {
+    match left_or_none_at(figures, others, prices, b, t + 1) {
         Some(next) => difference(now, next),
         None => None,
     }
@@ -136,15 +171,22 @@ fn less_withheld(worth: i128, early: bool) -> Option<i128>
 }
 
 // What node i is worth, period by period.
-fn worth_at(figures: &Figures, prices: &[u64], waits: &Waits, i: u32) -> Option<i128>
+fn worth_at(
+    figures: &Figures,
+    others: &[Figures],
+    prices: &[u64],
+    waits: &Waits,
+    i: u32,
+) -> Option<i128>
     requires node { i < length figures.now.weights * length figures.now.worths }
     requires same { waits.now.pairs.blocks ≡ length figures.now.worths }
-    ensures { IfSome result (λ worth. worth ≡ node_worth figures.now prices.now
+    requires ways { All (IsWayOf figures.now) others.now }
+    ensures { IfSome result (λ worth. worth ≡ node_worth figures.now others.now prices.now
         (i % length figures.now.worths) (i / length figures.now.worths)
         -ℤ withheld (is_early (length figures.now.worths) waits.now.lag waits.now.pairs.pairs i)) }
 {
     let blocks = figures.blocks();
-    match worth_of_node(figures, prices, i % blocks, i / blocks) {
+    match worth_of_node(figures, others, prices, i % blocks, i / blocks) {
         Some(worth) => less_withheld(worth, is_early(waits, i)),
         None => None,
     }
@@ -158,19 +200,24 @@ fn push_worth(worths: &mut Vec<i128>, worth: i128) -> Result<(), ExpandFault>
 }
 
 /// What each node of the expanded mine is worth, period by period, in 10^-15 of the unit of the worths: what its block
-/// leaves in its period above the prices of what it uses, less what it leaves in the next one. A node of a block that
-/// waits for another is worth 10^15 units less in the periods in which it is too early.
+/// leaves in its period above the prices of what it uses, less what it leaves in the next one. Where blocks may go
+/// other ways, which have figures of their own, it is what a block leaves at most. A node of a block that waits for
+/// another is worth 10^15 units less in the periods in which it is too early.
 ///
 /// # Errors
 /// `TooManyNodes` before all else; `TooLarge` where a number doesn't fit; `NoMemory`.
 pub fn node_worths_of(
     alloc: Global,
     figures: &Figures,
+    others: &[Figures],
     prices: &[u64],
     waits: &Waits,
 ) -> Result<Vec<i128>, ExpandFault>
-    requires { waits.now.pairs.blocks ≡ length figures.now.worths }
-    ensures { IfOk result (λ v. AreNodeWorths figures.now prices.now waits.now.lag waits.now.pairs.pairs v.items) }
+    requires same { waits.now.pairs.blocks ≡ length figures.now.worths }
+    requires ways { All (IsWayOf figures.now) others.now }
+    ensures { IfOk result
+        (λ v. AreNodeWorths figures.now others.now prices.now waits.now.lag waits.now.pairs.pairs
+        v.items) }
 {
     let blocks = figures.blocks();
     let nodes = figures.periods() as u64 * blocks as u64;
@@ -179,7 +226,7 @@ pub fn node_worths_of(
     }
     let mut worths: Vec<i128> = Vec::new(alloc);
     for i in 0..nodes as u32 {
-        match worth_at(figures, prices, waits, i) {
+        match worth_at(figures, others, prices, waits, i) {
             Some(worth) => push_worth(&mut worths, worth)?,
             None => return Err(ExpandFault::TooLarge),
         }

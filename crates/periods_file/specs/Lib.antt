@@ -2,5 +2,6 @@
 pub mod Periods
 pub mod Keys
 pub mod Values
+pub mod ByWay
 -- the names of all of them
 pub mod Prelude

@@ -1,16 +1,8 @@
 -- What one value of a TOML document reads as.
 use Rattle.std.specs.Bool.{nat_le}
-use Rattle.std.specs.Prelude.{ℕ, ◌*◌, ◌&&◌, ◌==◌, Bool, true, cond, ℤ, pos, List, [], ◌∷◌, ◌++◌, length, Option, Some, None}
-use Rattle.toml.specs.Data.{Data, Items, no_items, item, as_integer, as_array}
-
--- A whole number from 0 to the most, and nothing else.
-abbrev pub whole_upto : ℕ → Option ℤ → Option ℕ
-whole_upto most (Some (pos n)) = cond (nat_le n most) (Some n) None
-whole_upto most _ = None
-
--- What a value reads as that has to be a whole number from 0 to the most.
-abbrev pub whole_value_within : ℕ → Data → Option ℕ
-whole_value_within most d = whole_upto most (as_integer d)
+use Rattle.std.specs.Prelude.{ℕ, ◌*◌, ◌&&◌, ◌==◌, Bool, true, cond, List, [], ◌∷◌, ◌++◌, length, Option, Some, None}
+use Rattle.toml.specs.Data.{Data, Items, no_items, item, as_array}
+use Rattle.toml_values.specs.Numbers.{whole_value_within}
 
 -- The numbers of one item set before those of others; nothing where it or one of them didn't read.
 abbrev pub put_before : {V : Type 0} → Option (List V) → Option (List V) → Option (List V)
@@ -64,9 +56,9 @@ are_weights ns = (nat_le 1 (length ns) && nat_le (length ns) 1000) && are_fallin
 abbrev pub weights_of : Data → Option (List ℕ)
 weights_of d = if_holds are_weights (numbers_of 1000000 d)
 
--- What a value reads as that has to be resources: an array of at most 8 columns, which are numbers from 0 to 65,535.
-abbrev pub resources_of : Data → Option (List ℕ)
-resources_of d = if_holds (λ ns. nat_le (length ns) 8) (numbers_of 65535 d)
+-- What a value reads as that has to be columns: an array of at most 8, which are numbers from 0 to 65,535.
+abbrev pub columns_of : Data → Option (List ℕ)
+columns_of d = if_holds (λ ns. nat_le (length ns) 8) (numbers_of 65535 d)
 
 -- A number that isn't zero.
 abbrev pub if_some : Option ℕ → Option ℕ
@@ -78,12 +70,12 @@ abbrev pub lag_of : Data → Option ℕ
 lag_of d = if_some (whole_value_within 1000 d)
 
 -- What a value reads as that has to be a row: an array of so many whole numbers from 0 to the most.
-abbrev pub row_of : (most width : ℕ) → Data → Option (List ℕ)
-row_of most width d = if_holds (λ ns. length ns == width) (numbers_of most d)
+abbrev pub row_value_within : (most width : ℕ) → Data → Option (List ℕ)
+row_value_within most width d = if_holds (λ ns. length ns == width) (numbers_of most d)
 
 -- The rows that the items of an array are, each of the width, in one list row by row.
 abbrev pub rows_of_items : (most width : ℕ) → Option Items → Option (List ℕ)
-rows_of_items most width (Some ds) = all_rows (row_of most width) ds
+rows_of_items most width (Some ds) = all_rows (row_value_within most width) ds
 rows_of_items most width None = None
 
 -- What a value reads as that has to be an array of so many rows of the width, in one list row by row.

@@ -1,24 +1,23 @@
 //! Reads the arrays of periods: weights, columns of resources, and rows of capacities or of prices. Of a value that is
 //! no such array it gives nothing.
 
-ghost use Rattle.std.specs.Prelude.{◌≡◌, ◌≤◌, ◌<◌, ◌^◌, IfOk, IfSome, length, option_map};
+ghost use Rattle.std.specs.Prelude.{◌≡◌, ◌≤◌, IfOk, IfSome, length, option_map};
 ghost use Rattle.toml.specs.View.{view, array_view};
-ghost use Rattle.periods_file.specs.Values.{all_rows, are_falling, number_row, resources_of, row_of, rows_of, weights_of};
+ghost use Rattle.periods_file.specs.Values.{all_rows, are_falling, columns_of, number_row, row_value_within, rows_of, weights_of};
 
-use crate::values::number_within;
 use std::alloc::{AllocError, Global};
 use toml::Value;
 use toml::value::Array;
+use toml_values::number_within;
 
 // The most that a period weighs, in millionths.
 const MOST_WEIGHT: u64 = 1_000_000;
 
 // The most columns of a block model.
-const MOST_COLUMN: u64 = 65_535;
+pub(crate) const MOST_COLUMN: u64 = 65_535;
 
 // The whole numbers from 0 to `most` that the values are, or `None` where one is something else.
 fn numbers_among(alloc: Global, values: &Array, most: u64) -> Result<Option<Vec<u64>>, AllocError>
-    requires { most < 2 ^ 63 }
     ensures { IfOk result
         (λ o. option_map (λ v. v.items) o ≡ all_rows (number_row most) (array_view values.now)) }
 {
@@ -33,7 +32,7 @@ fn numbers_among(alloc: Global, values: &Array, most: u64) -> Result<Option<Vec<
 }
 
 // The columns that the values are, or `None` where one is something else.
-fn columns_among(alloc: Global, values: &Array) -> Result<Option<Vec<u32>>, AllocError>
+pub(crate) fn columns_among(alloc: Global, values: &Array) -> Result<Option<Vec<u32>>, AllocError>
     ensures { IfOk result
         (λ o. option_map (λ v. v.items) o ≡ all_rows (number_row 65535) (array_view values.now)) }
 {
@@ -83,9 +82,9 @@ pub(crate) fn weights_in(alloc: Global, value: &Value) -> Result<Option<Vec<u64>
     }
 }
 
-// The columns of resources that a value is: at most 8.
-pub(crate) fn resources_in(alloc: Global, value: &Value) -> Result<Option<Vec<u32>>, AllocError>
-    ensures value { IfOk result (λ o. option_map (λ v. v.items) o ≡ resources_of (view value.now)) }
+// The columns that a value is: at most 8.
+pub(crate) fn columns_in(alloc: Global, value: &Value) -> Result<Option<Vec<u32>>, AllocError>
+    ensures value { IfOk result (λ o. option_map (λ v. v.items) o ≡ columns_of (view value.now)) }
     ensures few { IfOk result (λ o. IfSome o (λ v. length v.items ≤ 8)) }
 {
     match value.as_array() {
@@ -110,8 +109,8 @@ fn row_in(
     most: u64,
     width: usize,
 ) -> Result<Option<Vec<u64>>, AllocError>
-    requires { most < 2 ^ 63 }
-    ensures { IfOk result (λ o. option_map (λ v. v.items) o ≡ row_of most width (view value.now)) }
+    ensures { IfOk result
+        (λ o. option_map (λ v. v.items) o ≡ row_value_within most width (view value.now)) }
 {
     match value.as_array() {
         Some(values) => match numbers_among(alloc, values, most)? {
@@ -135,9 +134,9 @@ fn rows_among(
     most: u64,
     width: usize,
 ) -> Result<Option<Vec<u64>>, AllocError>
-    requires { most < 2 ^ 63 }
     ensures { IfOk result
-        (λ o. option_map (λ v. v.items) o ≡ all_rows (row_of most width) (array_view values.now)) }
+        (λ o. option_map (λ v. v.items) o
+        ≡ all_rows (row_value_within most width) (array_view values.now)) }
 {
     let mut numbers = Vec::new(alloc);
     for value in values {
@@ -157,7 +156,6 @@ pub(crate) fn rows_in(
     rows: usize,
     width: usize,
 ) -> Result<Option<Vec<u64>>, AllocError>
-    requires most { most < 2 ^ 63 }
     requires rows { rows ≤ 8 }
     requires width { width ≤ 1000 }
     ensures { IfOk result

@@ -1,19 +1,22 @@
 //! Reads the text of periods: gives the value of each of its keys, or says that it is no TOML, has an unknown key, a
 //! bad value, or lacks a key.
 
-ghost use Rattle.std.specs.Prelude.{◌≡◌, ◌≤◌, Ok, Err, IfOk, IfErr, MatchResult, [], length, option_map};
+ghost use Rattle.std.specs.Prelude.{◌≡◌, ◌≤◌, ◌*◌, Ok, Err, IfOk, IfErr, MatchResult, [], length, option_map};
 ghost use Rattle.toml.specs.View.{table_view};
 ghost use Rattle.periods_file.specs.Keys.{all_known};
-ghost use Rattle.periods_file.specs.Values.{lag_of, resources_of, rows_of, weights_of};
+ghost use Rattle.periods_file.specs.Values.{columns_of, lag_of, rows_of, weights_of};
+ghost use Rattle.periods_file.specs.ByWay.{resources_of, shared_of, width_of};
 ghost use Rattle.periods_file.specs.Periods.{IsOfTable, ReadsPeriods, or_given, or_none, periods_in, periods_view, said_at};
 
-use crate::arrays::{resources_in, rows_in, weights_in};
+use crate::arrays::{columns_in, rows_in, weights_in};
+use crate::by_way::{resources_in, shared_in};
 use crate::keys::{PeriodKey, is_key};
 use crate::periods::Periods;
 use crate::periods_fault::PeriodsFault;
 use crate::values::lag_in;
 use std::alloc::Global;
 use toml::Table;
+use toml_values::{DocumentFault, read_document};
 
 // The most that a period has of a resource, in whole units.
 const MOST_CAPACITY: u64 = 1_000_000_000_000;
@@ -52,17 +55,43 @@ fn weights_at(alloc: Global, table: &Table) -> Result<Vec<u64>, PeriodsFault>
     }
 }
 
-// The columns of the resources of the table.
-fn resources_at(alloc: Global, table: &Table) -> Result<Vec<u32>, PeriodsFault>
+// Whether each resource of the table has one column for all ways.
+fn shared_at(alloc: Global, table: &Table) -> Result<Vec<bool>, PeriodsFault>
     ensures value { MatchResult result
-        (λ v. said_at PeriodKey.Resources resources_of (table_view table.now) ≡ Ok v.items)
+        (λ v. said_at PeriodKey.Resources shared_of (table_view table.now) ≡ Ok v.items)
         (λ e. ¬ (e ≡ PeriodsFault.NoMemory)
-        → said_at PeriodKey.Resources resources_of (table_view table.now) ≡ Err e) }
+        → said_at PeriodKey.Resources shared_of (table_view table.now) ≡ Err e) }
     ensures few { IfOk result (λ v. length v.items ≤ 8) }
     ensures kind { IfErr result IsOfTable }
 {
     match table.get(PeriodKey::Resources.name()) {
-        Some(value) => match resources_in(alloc, value) {
+        Some(value) => match shared_in(alloc, value) {
+            Ok(Some(shared)) => Ok(shared),
+            Ok(None) => Err(PeriodsFault::BadValue(PeriodKey::Resources)),
+            Err(_) => Err(PeriodsFault::NoMemory),
+        },
+        None => Err(PeriodsFault::Missing(PeriodKey::Resources)),
+    }
+}
+
+// The columns of so many resources of the table, by each way.
+fn resources_at(
+    alloc: Global,
+    table: &Table,
+    ways: u32,
+    rows: usize,
+) -> Result<Vec<u32>, PeriodsFault>
+    requires { rows ≤ 8 }
+    ensures value { MatchResult result
+        (λ v. said_at PeriodKey.Resources (resources_of ways rows) (table_view table.now)
+        ≡ Ok v.items)
+        (λ e. ¬ (e ≡ PeriodsFault.NoMemory)
+        → said_at PeriodKey.Resources (resources_of ways rows) (table_view table.now) ≡ Err e) }
+    ensures size { IfOk result (λ v. length v.items ≡ rows * width_of ways) }
+    ensures kind { IfErr result IsOfTable }
+{
+    match table.get(PeriodKey::Resources.name()) {
+        Some(value) => match resources_in(alloc, value, ways, rows) {
             Ok(Some(resources)) => Ok(resources),
             Ok(None) => Err(PeriodsFault::BadValue(PeriodKey::Resources)),
             Err(_) => Err(PeriodsFault::NoMemory),
@@ -126,14 +155,14 @@ fn multipliers_at(
 // The columns of the blocks for which blocks wait, which are none where the table has no such key.
 fn waits_at(alloc: Global, table: &Table) -> Result<Vec<u32>, PeriodsFault>
     ensures value { MatchResult result
-        (λ v. or_given [] (said_at PeriodKey.Waits resources_of (table_view table.now)) ≡ Ok v.items)
+        (λ v. or_given [] (said_at PeriodKey.Waits columns_of (table_view table.now)) ≡ Ok v.items)
         (λ e. ¬ (e ≡ PeriodsFault.NoMemory)
-        → or_given [] (said_at PeriodKey.Waits resources_of (table_view table.now)) ≡ Err e) }
+        → or_given [] (said_at PeriodKey.Waits columns_of (table_view table.now)) ≡ Err e) }
     ensures few { IfOk result (λ v. length v.items ≤ 8) }
     ensures kind { IfErr result IsOfTable }
 {
     match table.get(PeriodKey::Waits.name()) {
-        Some(value) => match resources_in(alloc, value) {
+        Some(value) => match columns_in(alloc, value) {
             Ok(Some(waits)) => Ok(waits),
             Ok(None) => Err(PeriodsFault::BadValue(PeriodKey::Waits)),
             Err(_) => Err(PeriodsFault::NoMemory),
@@ -160,11 +189,13 @@ fn lag_at(table: &Table) -> Result<u32, PeriodsFault>
 }
 
 // What the table says, or its first fault.
-fn periods_of(alloc: Global, table: &Table) -> Result<Periods, PeriodsFault>
+fn periods_of(alloc: Global, table: &Table, ways: u32) -> Result<Periods, PeriodsFault>
     ensures value { MatchResult result
-        (λ p. periods_in (table_view table.now) ≡ Ok (periods_view p))
-        (λ e. ¬ (e ≡ PeriodsFault.NoMemory) → periods_in (table_view table.now) ≡ Err e) }
-    ensures few { IfOk result (λ p. (length p.weights.items ≤ 1000) × (length p.resources.items ≤ 8)) }
+        (λ p. periods_in ways (table_view table.now) ≡ Ok (periods_view p))
+        (λ e. ¬ (e ≡ PeriodsFault.NoMemory) → periods_in ways (table_view table.now) ≡ Err e) }
+    ensures few { IfOk result (λ p. (length p.weights.items ≤ 1000) × (length p.shared.items ≤ 8)) }
+    ensures size { IfOk result
+        (λ p. length p.resources.items ≡ length p.shared.items * width_of ways) }
     ensures waits { IfOk result (λ p. (length p.waits.items ≤ 8) × (p.lag ≤ 1000)) }
     ensures kind { IfErr result IsOfTable }
 {
@@ -172,14 +203,16 @@ fn periods_of(alloc: Global, table: &Table) -> Result<Periods, PeriodsFault>
         return Err(PeriodsFault::UnknownKey);
     }
     let weights = weights_at(alloc, table)?;
-    let resources = resources_at(alloc, table)?;
-    let capacities = capacities_at(alloc, table, resources.len(), weights.len())?;
-    let multipliers = multipliers_at(alloc, table, resources.len(), weights.len())?;
+    let shared = shared_at(alloc, table)?;
+    let resources = resources_at(alloc, table, ways, shared.len())?;
+    let capacities = capacities_at(alloc, table, shared.len(), weights.len())?;
+    let multipliers = multipliers_at(alloc, table, shared.len(), weights.len())?;
     let waits = waits_at(alloc, table)?;
     let lag = lag_at(table)?;
     Ok(Periods {
         weights,
         resources,
+        shared,
         capacities,
         multipliers,
         waits,
@@ -187,31 +220,24 @@ fn periods_of(alloc: Global, table: &Table) -> Result<Periods, PeriodsFault>
     })
 }
 
-/// What a text says as periods.
+/// What a text says as periods, where there are so many ways to treat a block beside waste.
 ///
 /// # Errors
 /// In this order: `NotToml` where the text is no TOML document; `UnknownKey` where a name of its table is no key;
 /// `Missing` or `BadValue` with the first key that isn't there, or whose value is of a wrong kind or out of its range.
 /// `NoMemory` where memory is refused.
-pub fn read_periods(alloc: Global, bytes: &[u8]) -> Result<Periods, PeriodsFault>
+pub fn read_periods(alloc: Global, bytes: &[u8], ways: u32) -> Result<Periods, PeriodsFault>
     ensures read { MatchResult result
-        (λ p. ReadsPeriods bytes.now (Ok (periods_view p)))
-        (λ e. ReadsPeriods bytes.now (Err e)) }
-    ensures few { IfOk result (λ p. (length p.weights.items ≤ 1000) × (length p.resources.items ≤ 8)) }
+        (λ p. ReadsPeriods ways bytes.now (Ok (periods_view p)))
+        (λ e. ReadsPeriods ways bytes.now (Err e)) }
+    ensures few { IfOk result (λ p. (length p.weights.items ≤ 1000) × (length p.shared.items ≤ 8)) }
+    ensures size { IfOk result
+        (λ p. length p.resources.items ≡ length p.shared.items * width_of ways) }
     ensures waits { IfOk result (λ p. (length p.waits.items ≤ 8) × (p.lag ≤ 1000)) }
 {
-    let text = match std::str::from_utf8(bytes) {
-        Ok(text) => text,
-        Err(_) => return Err(PeriodsFault::NotToml),
-    };
-    match toml::table_from_str(alloc, text) {
-        Ok(table) => periods_of(alloc, &table),
-        Err(e) => {
-            if e.is_memory() {
-                Err(PeriodsFault::NoMemory)
-            } else {
-                Err(PeriodsFault::NotToml)
-            }
-        }
+    match read_document(alloc, bytes) {
+        Ok(table) => periods_of(alloc, &table, ways),
+        Err(DocumentFault::NotToml) => Err(PeriodsFault::NotToml),
+        Err(DocumentFault::NoMemory) => Err(PeriodsFault::NoMemory),
     }
 }

@@ -1,5 +1,6 @@
 -- The figures of a production as lists, and what they denote.
-use Rattle.std.specs.Prelude.{◌≡◌, ℕ, ◌+◌, ◌*◌, ◌^◌, ◌<◌, ◌≤◌, ℤ, pos, neg_ℤ, ◌*ℤ◌, ◌≤ℤ◌, List, length, slice_index, slice_index_or}
+use Rattle.std.specs.Prelude.{◌≡◌, ℕ, ◌+◌, ◌*◌, ◌≤◌, ℤ, pos, neg_ℤ, ◌*ℤ◌, ◌≤ℤ◌, List, length, slice_index}
+use Rattle.std.specs.Prelude.{slice_index_or}
 use Rattle.std.specs.List.{All}
 use Rattle.fixed_worth.specs.declared.limits.TheConstants.{MOST_BLOCKS}
 use Rattle.prec_file.specs.Rests.{has_pair}
@@ -16,7 +17,8 @@ pub record FiguresView : Type 0 where
 
 -- the figures of these lists
 abbrev pub figures_view : List ℤ → List ℕ → ℕ → List ℕ → List ℕ → FiguresView
-figures_view worths weights resources uses capacities = record { worths = worths; weights = weights; resources = resources; uses = uses; capacities = capacities }
+figures_view worths weights resources uses capacities = record
+    { worths = worths; weights = weights; resources = resources; uses = uses; capacities = capacities }
 
 -- there are as many of each as there should be
 pub record AreComplete (f : FiguresView) : Type 0 where

@@ -35,9 +35,11 @@ impl Model for Figures {
 
     ghost Value = { FiguresView };
 
-    ghost view = { λ f. figures_view f.worths.items f.weights.items f.resources f.uses.items f.capacities.items };
+    ghost view = { λ f. figures_view f.worths.items f.weights.items f.resources f.uses.items
+        f.capacities.items };
 
-    ghost invariant = { λ f. AreFigures (figures_view f.worths.items f.weights.items f.resources f.uses.items f.capacities.items) };
+    ghost invariant = { λ f. AreFigures (figures_view f.worths.items f.weights.items f.resources
+        f.uses.items f.capacities.items) };
 }
 
 // Whether a block is worth or costs no more than the most.
@@ -103,7 +105,8 @@ impl Figures {
         uses: Vec<u64>,
         capacities: Vec<u64>,
     ) -> Option<Figures>
-        ensures { let f = figures_view worths.items weights.items resources uses.items capacities.items in
+        ensures { let f = figures_view worths.items weights.items resources uses.items
+            capacities.items in
             MatchOption result (¬ (AreFigures f)) (λ figures. (figures ≡ f) × AreFigures f) }
     {
         if !are_complete(&worths, &weights, resources, &uses, &capacities)

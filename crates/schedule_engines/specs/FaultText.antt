@@ -2,17 +2,19 @@
 use Rattle.std.specs.Prelude.{ℕ, List, [], ◌∷◌, ◌++◌, codes, decimal}
 use Rattle.periods_file.specs.Periods.{periods_fault_text}
 use Rattle.schedule_file.specs.Records.{schedule_fault_text}
-use Rattle.schedule_engines.specs.declared.schedule_fault.PeriodsProblem.{PeriodsProblem}
-use Rattle.schedule_engines.specs.declared.schedule_fault.PeriodsProblem.TheVariants as periods
-use Rattle.schedule_engines.specs.declared.schedule_fault.ScheduleProblem.{ScheduleProblem}
-use Rattle.schedule_engines.specs.declared.schedule_fault.ScheduleProblem.TheVariants as schedule
+use Rattle.schedule_engines.specs.declared.plan_fault.PeriodsProblem.{PeriodsProblem}
+use Rattle.schedule_engines.specs.declared.plan_fault.PeriodsProblem.TheVariants as periods
+use Rattle.schedule_engines.specs.declared.plan_fault.ScheduleProblem.{ScheduleProblem}
+use Rattle.schedule_engines.specs.declared.plan_fault.ScheduleProblem.TheVariants as schedule
 
 abbrev pub periods_problem_text : PeriodsProblem → List ℕ
 periods_problem_text periods.InputTooLong = codes "InputTooLong"
 periods_problem_text (periods.Fault fault) = periods_fault_text fault
 periods_problem_text periods.BlockCount = codes "BlockCount"
-periods_problem_text (periods.NegativeUse r b) = codes "NegativeUse" ++ (codes "(" ++ (decimal r ++ (codes ", " ++ (decimal b ++ codes ")"))))
-periods_problem_text (periods.UnknownWait c b) = codes "UnknownWait" ++ (codes "(" ++ (decimal c ++ (codes ", " ++ (decimal b ++ codes ")"))))
+periods_problem_text (periods.NegativeUse r b) = codes "NegativeUse"
+    ++ (codes "(" ++ (decimal r ++ (codes ", " ++ (decimal b ++ codes ")"))))
+periods_problem_text (periods.UnknownWait c b) = codes "UnknownWait"
+    ++ (codes "(" ++ (decimal c ++ (codes ", " ++ (decimal b ++ codes ")"))))
 periods_problem_text periods.TooLarge = codes "TooLarge"
 
 abbrev pub schedule_problem_text : ScheduleProblem → List ℕ

@@ -1,5 +1,6 @@
 -- Columns of a model of blocks: what blocks use of resources, and for which blocks they wait.
-use Rattle.std.specs.Prelude.{◌≡◌, ℕ, zero, suc, ◌+◌, ◌*◌, ◌/◌, ◌%◌, ◌<◌, ℤ, pos, ◌≤ℤ◌, unsigned_abs, Bool, List, [], ◌∷◌, ◌++◌, length, slice_index, slice_index_or}
+use Rattle.std.specs.Prelude.{◌≡◌, ℕ, zero, suc, ◌+◌, ◌*◌, ◌/◌, ◌%◌, ◌<◌, ℤ, pos, ◌≤ℤ◌, unsigned_abs, Bool, List, []}
+use Rattle.std.specs.Prelude.{◌∷◌, ◌++◌, length, slice_index, slice_index_or}
 use Rattle.prec_file.specs.Rests.{RestsView}
 use Rattle.blocks_file.specs.Denotes.{BlocksView}
 use Rattle.mine_inputs.specs.Prelude.{ArePairsBy, cell, rests_by}
@@ -21,7 +22,8 @@ IsUse z = pos 0 ≤ℤ z
 abbrev pub IsBlock : ℕ → ℤ → Type 0
 IsBlock n z = (a : ℕ) × (a < n) × (z ≡ pos (a * 1000000))
 
--- The first number of so many columns of n blocks, column by column, that isn't such: that of block b in column k. Every
+-- The first number of so many columns of n blocks, column by column, that isn't such: that of block b in column k.
+-- Every
 -- number that stands before it is such.
 pub record IsFirstWrong (Such : ℤ → Type 0) (at : ℕ → ℕ → ℤ) (columns n k b : ℕ) : Type 0 where
   pub column : k < columns

@@ -2,15 +2,14 @@
 
 ghost use Rattle.std.specs.Prelude.{◌≡◌, ◌+◌, ◌-◌, ◌^◌, ◌<◌, ◌≤◌, ◌++◌, length, codes, decimal, OnOk, OnErr};
 ghost use Rattle.std.specs.Io.KnownBytes.{Appends};
-ghost use Rattle.fixed_worth.specs.Device.{ReceivedPrefix};
+ghost use Rattle.counted_devices.specs.Device.{ReceivedPrefix};
 ghost use Rattle.fixed_worth.specs.FaultText.{at_line};
 ghost use Rattle.periods_file.specs.Keys.{key_name};
 ghost use Rattle.periods_file.specs.Periods.{periods_fault_text};
-ghost use Rattle.schedule_file.specs.Records.{schedule_fault_text};
 ghost use Rattle.schedule_engines.specs.FaultText.{periods_problem_line, periods_problem_text, periods_problem_words, schedule_problem_line, schedule_problem_text, schedule_problem_words};
 
-use crate::schedule_fault::{PeriodsProblem, ScheduleProblem};
-use fixed_worth::{CountedWrite, ShortLine, WriteFault, write_text};
+use crate::plan_fault::{PeriodsProblem, ScheduleProblem};
+use counted_devices::{CountedWrite, ShortLine, WriteFault, write_text};
 use periods_file::{PeriodKey, PeriodsFault};
 use schedule_file::ScheduleFault;
 
@@ -102,7 +101,8 @@ fn push_cell(line: &mut ShortLine, name: &[u8], column: u32, b: u32)
     requires room { length line.old ≤ 32 }
     requires short { length name.now ≤ 16 }
     ensures text { line.new ≡ line.old
-        ++ (name.now ++ (codes "(" ++ (decimal column ++ (codes ", " ++ (decimal b ++ codes ")"))))) }
+        ++ (name.now
+        ++ (codes "(" ++ (decimal column ++ (codes ", " ++ (decimal b ++ codes ")"))))) }
     ensures length { length line.new ≤ length line.old + 100 }
 {
     line.push(name);
@@ -166,6 +166,7 @@ fn push_schedule(line: &mut ShortLine, problem: ScheduleProblem)
         ScheduleProblem::Fault(ScheduleFault::UnknownPeriod(n)) => {
             push_at(line, b"UnknownPeriod", n)
         }
+        ScheduleProblem::Fault(ScheduleFault::UnknownWay(n)) => push_at(line, b"UnknownWay", n),
         ScheduleProblem::Fault(ScheduleFault::Repeated(n)) => push_at(line, b"Repeated", n),
         ScheduleProblem::Fault(ScheduleFault::NoMemory) => line.push(b"NoMemory"),
     }

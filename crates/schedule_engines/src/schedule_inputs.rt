@@ -1,18 +1,20 @@
 //! Reads what a schedule is judged by, beside its mine: periods and the schedule itself.
 
-ghost use Rattle.std.specs.Prelude.{◌≡◌, ◌+◌, ◌-◌, ◌^◌, ◌<◌, ◌≤◌, ◌↔◌, ◌⊎◌, length, IfOk, IfSome, MatchResult, IsErrOf};
+ghost use Rattle.std.specs.Prelude.{◌≡◌, ◌+◌, ◌-◌, ◌*◌, ◌^◌, ◌<◌, ◌≤◌, ◌↔◌, ◌⊎◌, ◌++◌, ◌∷◌, [], length, map, IfOk, IfSome, MatchResult, IsErrOf, OnOk};
 ghost use Rattle.mine_inputs.specs.Limits.{IsTooLong, IsWithinLimit};
-ghost use Rattle.mine_inputs.specs.declared.engine_fault.EngineFault.TheVariants as engine;
+ghost use Rattle.engine_faults.specs.declared.engine_fault.EngineFault.TheVariants as engine;
 ghost use Rattle.periods_file.specs.Periods.{periods_view};
-ghost use Rattle.schedule_engines.specs.declared.schedule_fault.PlanFault.TheVariants as plan;
-ghost use Rattle.schedule_engines.specs.PlanTexts.{PeriodsTextFails, ReadsPeriodsText, ReadsScheduleText, ScheduleTextFails};
+ghost use Rattle.periods_file.specs.ByWay.{width_of};
+ghost use Rattle.schedule_engines.specs.declared.plan_fault.PlanFault.TheVariants as plan;
+ghost use Rattle.schedule_engines.specs.PlanTexts.{EntriesFail, PeriodsByFail, ReadsEntries, ReadsPeriodsBy};
 
-use crate::schedule_fault::{PeriodsProblem, PlanFault, ScheduleProblem};
-use fixed_worth::{CountedRead, InputFault, MOST_BLOCKS, MOST_BYTES, read_whole};
-use mine_inputs::EngineFault;
+use crate::plan_fault::{PeriodsProblem, PlanFault, ScheduleProblem};
+use counted_devices::{CountedRead, InputFault, read_whole};
+use engine_faults::EngineFault;
+use fixed_worth::{MOST_BLOCKS, MOST_BYTES};
 use periods_file::{Periods, PeriodsFault, read_periods};
-use schedule_file::{ScheduleFault, read_schedule};
-use std::alloc::Global;
+use schedule_file::{Entry, ScheduleFault, read_schedule};
+use std::alloc::{AllocError, Global};
 
 /// What a schedule is judged by, beside its mine. It is read in the order of these fields, each to its end.
 #[derive(Drop)]
@@ -26,7 +28,7 @@ pub struct ScheduleInputs<D> {
 }
 
 // All bytes of an input; this fault where it is too long.
-fn text_from<D: CountedRead>(
+pub(crate) fn text_from<D: CountedRead>(
     alloc: Global,
     from: &mut D,
     too_long: PlanFault,
@@ -50,34 +52,42 @@ fn text_from<D: CountedRead>(
     }
 }
 
-// What a text says of periods.
-fn periods_in(alloc: Global, text: &[u8]) -> Result<Periods, PlanFault>
+// What a text says of periods, where there are so many ways to treat a block.
+fn periods_in(alloc: Global, text: &[u8], ways: u32) -> Result<Periods, PlanFault>
     requires { IsWithinLimit text.now }
     ensures read { MatchResult result
-        (λ p. ReadsPeriodsText text.now (periods_view p))
-        (PeriodsTextFails text.now) }
-    ensures few { IfOk result (λ p. (length p.weights.items ≤ 1000) × (length p.resources.items ≤ 8)) }
+        (λ p. ReadsPeriodsBy ways text.now (periods_view p))
+        (PeriodsByFail ways text.now) }
+    ensures few { IfOk result (λ p. (length p.weights.items ≤ 1000) × (length p.shared.items ≤ 8)) }
+    ensures size { IfOk result
+        (λ p. length p.resources.items ≡ length p.shared.items * width_of ways) }
     ensures waits { IfOk result (λ p. (length p.waits.items ≤ 8) × (p.lag ≤ 1000)) }
     ensures no_device { ¬ IsErrOf result (plan.Engine engine.Device) }
 {
-    match read_periods(alloc, text) {
+    match read_periods(alloc, text, ways) {
         Ok(periods) => Ok(periods),
         Err(PeriodsFault::NoMemory) => Err(PlanFault::Engine(EngineFault::Memory)),
         Err(fault) => Err(PlanFault::Periods(PeriodsProblem::Fault(fault))),
     }
 }
 
-/// What the text of an input says of periods.
+/// What the text of an input says of periods, where there are so many ways to treat a block beside waste.
 ///
 /// # Errors
 /// `Periods` for a text that is too long, or its first fault. `Memory` where memory is refused, `Device` where a read
 /// fails.
-pub fn periods_from<D: CountedRead>(alloc: Global, from: &mut D) -> Result<Periods, PlanFault>
+pub fn periods_by_from<D: CountedRead>(
+    alloc: Global,
+    from: &mut D,
+    ways: u32,
+) -> Result<Periods, PlanFault>
     requires { D.failed from.old < 2 ^ 64 - 1 }
     ensures read { IfSome (D.remaining from.old) (λ text. MatchResult result
-        (λ p. ReadsPeriodsText text (periods_view p))
-        (PeriodsTextFails text)) }
-    ensures few { IfOk result (λ p. (length p.weights.items ≤ 1000) × (length p.resources.items ≤ 8)) }
+        (λ p. ReadsPeriodsBy ways text (periods_view p))
+        (PeriodsByFail ways text)) }
+    ensures few { IfOk result (λ p. (length p.weights.items ≤ 1000) × (length p.shared.items ≤ 8)) }
+    ensures size { IfOk result
+        (λ p. length p.resources.items ≡ length p.shared.items * width_of ways) }
     ensures waits { IfOk result (λ p. (length p.waits.items ≤ 8) × (p.lag ≤ 1000)) }
     ensures device { IsErrOf result (plan.Engine engine.Device)
         ↔ (D.failed from.new ≡ D.failed from.old + 1) }
@@ -86,42 +96,50 @@ pub fn periods_from<D: CountedRead>(alloc: Global, from: &mut D) -> Result<Perio
 {
     let too_long = PlanFault::Periods(PeriodsProblem::InputTooLong);
     let text = text_from(alloc, from, too_long)?;
-    periods_in(alloc, text.as_slice())
+    periods_in(alloc, text.as_slice(), ways)
 }
 
-// The period that a text gives each block.
-fn schedule_in(alloc: Global, text: &[u8], n: u32, periods: u32) -> Result<Vec<u32>, PlanFault>
+// The period and the way that a text gives each block.
+fn entries_in(
+    alloc: Global,
+    text: &[u8],
+    n: u32,
+    periods: u32,
+    ways: u32,
+) -> Result<Vec<Entry>, PlanFault>
     requires blocks { n ≤ MOST_BLOCKS }
     requires within { IsWithinLimit text.now }
     ensures read { MatchResult result
-        (λ v. ReadsScheduleText n periods text.now v.items)
-        (ScheduleTextFails n periods text.now) }
+        (λ v. ReadsEntries n periods ways text.now v.items)
+        (EntriesFail n periods ways text.now) }
     ensures size { IfOk result (λ v. length v.items ≡ n) }
     ensures no_device { ¬ IsErrOf result (plan.Engine engine.Device) }
 {
-    match read_schedule(alloc, text, n, periods) {
+    match read_schedule(alloc, text, n, periods, ways) {
         Ok(schedule) => Ok(schedule),
         Err(ScheduleFault::NoMemory) => Err(PlanFault::Engine(EngineFault::Memory)),
         Err(fault) => Err(PlanFault::Schedule(ScheduleProblem::Fault(fault))),
     }
 }
 
-/// The period that the text of an input gives each of n blocks; the number of periods for one that isn't dug.
+/// The period and the way that the text of an input gives each of n blocks, where there are so many ways to treat one
+/// beside waste; the number of periods for a block that isn't dug.
 ///
 /// # Errors
 /// `Schedule` for a text that is too long, or the fault of its first faulty line. `Memory` where memory is refused,
 /// `Device` where a read fails.
-pub fn schedule_from<D: CountedRead>(
+pub fn entries_from<D: CountedRead>(
     alloc: Global,
     from: &mut D,
     n: u32,
     periods: u32,
-) -> Result<Vec<u32>, PlanFault>
+    ways: u32,
+) -> Result<Vec<Entry>, PlanFault>
     requires blocks { n ≤ MOST_BLOCKS }
     requires room { D.failed from.old < 2 ^ 64 - 1 }
     ensures read { IfSome (D.remaining from.old) (λ text. MatchResult result
-        (λ v. ReadsScheduleText n periods text v.items)
-        (ScheduleTextFails n periods text)) }
+        (λ v. ReadsEntries n periods ways text v.items)
+        (EntriesFail n periods ways text)) }
     ensures size { IfOk result (λ v. length v.items ≡ n) }
     ensures device { IsErrOf result (plan.Engine engine.Device)
         ↔ (D.failed from.new ≡ D.failed from.old + 1) }
@@ -130,5 +148,24 @@ pub fn schedule_from<D: CountedRead>(
 {
     let too_long = PlanFault::Schedule(ScheduleProblem::InputTooLong);
     let text = text_from(alloc, from, too_long)?;
-    schedule_in(alloc, text.as_slice(), n, periods)
+    entries_in(alloc, text.as_slice(), n, periods, ways)
+}
+
+// Adds the period of a block.
+fn push_period(periods: &mut Vec<u32>, period: u32) -> Result<(), AllocError>
+    ensures { OnOk result (periods.new.items ≡ periods.old.items ++ period ∷ []) }
+{
+    periods.push(period)?;
+    Ok(())
+}
+
+/// The periods of entries.
+pub(crate) fn periods_in_entries(alloc: Global, entries: &[Entry]) -> Result<Vec<u32>, AllocError>
+    ensures { IfOk result (λ v. v.items ≡ map (λ e. e.period) entries.now) }
+{
+    let mut periods: Vec<u32> = Vec::new(alloc);
+    for b in 0..entries.len() {
+        push_period(&mut periods, entries[b].period)?;
+    }
+    Ok(periods)
 }

@@ -8,8 +8,9 @@ ghost use Rattle.schedule_value.specs.Judging.{judged_view};
 ghost use Rattle.schedule_engines.specs.ScheduleLines.{LinesFail, early_text, over_line, over_text, pair_line, pairs_text, schedule_text};
 
 use crate::weighed::Weighed;
-use fixed_worth::{CountedWrite, MicrosTotal, write_text};
-use mine_inputs::EngineFault;
+use counted_devices::{CountedWrite, write_text};
+use engine_faults::EngineFault;
+use fixed_worth::MicrosTotal;
 use schedule_value::{BrokenPairs, Judged, Over};
 use std::alloc::{AllocError, Global};
 
@@ -27,7 +28,8 @@ pub(crate) fn write_schedule<W: CountedWrite>(
 ) -> Result<(), EngineFault>
     requires { W.failed out.old < 2 ^ 64 - 1 }
     ensures lines { OnOk result
-        (Appends (W.contents out.old) (W.contents out.new) (schedule_text (judged_view judged.now))) }
+        (Appends (W.contents out.old) (W.contents out.new)
+        (schedule_text (judged_view judged.now))) }
     ensures fault { IfErr result (LinesFail (W.contents out.old) (W.contents out.new)
         (schedule_text (judged_view judged.now))) }
     ensures device { IsErrOf result EngineFault.Device ↔ (W.failed out.new ≡ W.failed out.old + 1) }
@@ -56,7 +58,8 @@ pub fn text_of_schedule(alloc: Global, judged: &Judged) -> Result<String, AllocE
 
 // How many pairs are too early, and a line for each of the first; nothing where none is.
 fn text_of_early(alloc: Global, early: &BrokenPairs) -> Result<String, AllocError>
-    ensures { IfOk result (λ text. string_bytes text ≡ early_text early.now.count early.now.first.items) }
+    ensures { IfOk result
+        (λ text. string_bytes text ≡ early_text early.now.count early.now.first.items) }
 {
     let count = early.count;
     if count == 0 {
@@ -80,7 +83,8 @@ fn text_of_pairs(alloc: Global, word: &str, pairs: &[(u32, u32)]) -> Result<Stri
 
 // The text, and after it the line of a pair.
 fn with_pair(alloc: Global, text: &String, word: &str, b: u32, p: u32) -> Result<String, AllocError>
-    ensures { IfOk result (λ more. string_bytes more ≡ string_bytes text.now ++ pair_line word.now (b, p)) }
+    ensures { IfOk result
+        (λ more. string_bytes more ≡ string_bytes text.now ++ pair_line word.now (b, p)) }
 {
     format!(in alloc; "{text}{word} {b} {p}\n")
 }

@@ -2,17 +2,19 @@
 
 ghost use Rattle.std.specs.Prelude.{◌≡◌, ◌+◌, ◌-◌, ◌^◌, ◌<◌, IsErrOf};
 ghost use Rattle.mine_inputs.specs.MineInputs.{ForTexts, CanCount, NoneFailed, OneFailed};
-ghost use Rattle.mine_inputs.specs.declared.engine_fault.EngineFault.TheVariants as engine;
-ghost use Rattle.schedule_engines.specs.declared.schedule_fault.PlanFault.TheVariants as plan;
+ghost use Rattle.engine_faults.specs.declared.engine_fault.EngineFault.TheVariants as engine;
+ghost use Rattle.schedule_engines.specs.declared.plan_fault.PlanFault.TheVariants as plan;
 ghost use Rattle.schedule_engines.specs.PlanDevices.{ForPlan, PlanCanCount, plan_failures};
 ghost use Rattle.schedule_engines.specs.Schedules.{Writes};
 
-use crate::plan_read::{PlanRead, plan_from};
-use crate::schedule_fault::PlanFault;
+use crate::plan_fault::PlanFault;
+use crate::plan_read::plan_from;
 use crate::schedule_inputs::ScheduleInputs;
-use crate::schedule_judge::{Planned, judge_planned};
-use fixed_worth::{CountedRead, CountedWrite};
-use mine_inputs::{MineInputs, mine_to_check};
+use crate::schedule_judge::judge_planned;
+use closure_net::NetFault;
+use counted_devices::{CountedRead, CountedWrite};
+use engine_faults::EngineFault;
+use mine_inputs::{MineInputs, MineToCheck, mine_to_check};
 use shells::Factor;
 use std::alloc::Global;
 use std::thread::Threads;
@@ -20,7 +22,7 @@ use std::thread::Threads;
 /// Judges a schedule of a mine over its periods, where its blocks have prices at the factor that is asked for, and
 /// writes what it comes to.
 ///
-/// The first line is `SCHEDULE count npv`: how many blocks it digs, and what they are worth in their periods. Behind it
+/// The first line is `SCHEDULE count npv`: how many blocks it digs, and what they are worth in their periods. After it
 /// comes `BROKEN pairs`, how many pairs of the mine have their predecessor later or never, with a line `BREAKS b p` for
 /// each of the first 20. Where blocks wait for others, and some are dug too early, `EARLY pairs` has how many, with a
 /// line `WAITS b a` for each of the first 20. A line `OVER r t used capacity` comes for each period that uses more of a
@@ -63,25 +65,14 @@ pub fn schedule_engine<R: Threads + Sync, D: CountedRead, W: CountedWrite>(
         × (plan_failures beside.new D.failed ≡ plan_failures beside.old D.failed)
         × (W.failed out.new ≡ W.failed out.old) }
 {
-    let mine = mine_to_check(alloc, inputs)?;
-    let PlanRead {
-        periods,
-        uses,
-        waits,
-        schedule,
-    } = plan_from(alloc, beside, mine.predecessors.len())?;
-    let nanos = mine.worths.nanos_at(rt, alloc, factor)?;
-    let predecessors = mine.predecessors;
-    judge_planned(
-        alloc,
-        Planned {
-            nanos,
-            predecessors,
-            periods,
-            uses,
-            waits,
-            schedule,
-        },
-        out,
-    )
+    let MineToCheck {
+        worths,
+        predecessors,
+    } = mine_to_check(rt, alloc, inputs)?;
+    let read = plan_from(alloc, beside, predecessors.len(), worths.way_count())?;
+    // the texts of a mine say of as many blocks what they are worth as which blocks they rest on
+    if worths.len() != predecessors.len() {
+        return Err(PlanFault::Engine(EngineFault::Model(NetFault::WrongLength)));
+    }
+    judge_planned(alloc, &worths, factor, &predecessors, &read, out)
 }

@@ -1,16 +1,18 @@
 //! Reads what blocks use of the resources, and the blocks for which they wait: columns of a block model. No number of
 //! the former may be negative, and each of the latter is that of a block.
 
-ghost use Rattle.std.specs.Prelude.{◌≡◌, ◌+◌, ◌-◌, ◌*◌, ◌/◌, ◌^◌, ◌<◌, ◌≤◌, ◌↔◌, pos, unsigned_abs, ◌++◌, ◌∷◌, [], length, IfOk, IfSome, IsErrOf, MatchOption, MatchResult, OnOk};
-ghost use Rattle.mine_inputs.specs.declared.engine_fault.EngineFault.TheVariants as engine;
-ghost use Rattle.schedule_engines.specs.declared.schedule_fault.PlanFault.TheVariants as plan;
+ghost use Rattle.std.specs.Prelude.{◌≡◌, ◌+◌, ◌-◌, ◌*◌, ◌/◌, ◌<◌, ◌≤◌, pos, unsigned_abs, ◌++◌, ◌∷◌, [], length, IfOk, IsErrOf, MatchOption, MatchResult, OnOk};
+ghost use Rattle.mine_inputs.specs.Limits.{IsWithinLimit};
+ghost use Rattle.engine_faults.specs.declared.engine_fault.EngineFault.TheVariants as engine;
+ghost use Rattle.engine_faults.specs.declared.engine_fault.Problem.TheVariants as problem;
+ghost use Rattle.schedule_engines.specs.declared.plan_fault.PlanFault.TheVariants as plan;
 ghost use Rattle.schedule_engines.specs.PlanTexts.{ReadsUses, UsesFail, UsesWrong, WaitsWrong};
 ghost use Rattle.schedule_engines.specs.Uses.{AreUses, HasWaits, IsBlock, IsUse, use_in};
 
-use crate::schedule_fault::{PeriodsProblem, PlanFault};
-use blocks_file::BlockModel;
-use fixed_worth::{CountedRead, MOST_BLOCKS};
-use mine_inputs::blocks_from;
+use crate::plan_fault::{PeriodsProblem, PlanFault};
+use blocks_file::{BlockModel, read_blocks};
+use engine_faults::{EngineFault, Problem};
+use fixed_worth::MOST_BLOCKS;
 use prec_file::{ListedPairs, Predecessors};
 use std::alloc::{AllocError, Global};
 
@@ -111,7 +113,7 @@ fn waits_of(
 ) -> Result<Predecessors, PlanFault>
     requires blocks { n ≤ MOST_BLOCKS }
     requires same { model.now.blocks ≡ n }
-    requires behind { first ≤ 8 }
+    requires beyond { first ≤ 8 }
     requires few { count ≤ 8 }
     requires columns { length model.now.columns ≡ first + count }
     ensures are { MatchResult result
@@ -173,11 +175,11 @@ fn all_columns(alloc: Global, resources: &[u32], waits: &[u32]) -> Result<Vec<u3
 /// wait by others, at most 8 too.
 ///
 /// # Errors
-/// `Blocks` for a fault of the text; `Periods` where it has another number of blocks, and else for the first use that is
-/// negative, and else for the first block that waits for no block. `Memory` where memory is refused, `Device` where a read fails.
-pub fn uses_from<D: CountedRead>(
+/// `Blocks` for a fault of the text; `Periods` where it has another number of blocks, and else for the first use that
+/// is negative, and else for the first block that waits for no block. `Memory` where memory is refused.
+pub(crate) fn uses_in_text(
     alloc: Global,
-    from: &mut D,
+    text: &[u8],
     resources: &[u32],
     waits: &[u32],
     n: u32,
@@ -185,18 +187,25 @@ pub fn uses_from<D: CountedRead>(
     requires few { length resources.now ≤ 8 }
     requires few_waits { length waits.now ≤ 8 }
     requires blocks { n ≤ MOST_BLOCKS }
-    requires room { D.failed from.old < 2 ^ 64 - 1 }
-    ensures read { IfSome (D.remaining from.old) (λ text. MatchResult result
-        (λ u. ReadsUses n resources.now waits.now text u.amounts.items u.waits)
-        (UsesFail n resources.now waits.now text)) }
+    requires within { IsWithinLimit text.now }
+    ensures read { MatchResult result
+        (λ u. ReadsUses n resources.now waits.now text.now u.amounts.items u.waits)
+        (UsesFail n resources.now waits.now text.now) }
     ensures size { IfOk result (λ u. u.waits.blocks ≡ n) }
-    ensures device { IsErrOf result (plan.Engine engine.Device)
-        ↔ (D.failed from.new ≡ D.failed from.old + 1) }
-    ensures kept { ¬ IsErrOf result (plan.Engine engine.Device)
-        → D.failed from.new ≡ D.failed from.old }
+    ensures no_device { ¬ IsErrOf result (plan.Engine engine.Device) }
 {
     let columns = all_columns(alloc, resources, waits)?;
-    let model = blocks_from(alloc, from, columns.as_slice())?;
+    let model = match read_blocks(alloc, text, columns.as_slice()) {
+        Ok(model) => model,
+        Err(fault) => return Err(PlanFault::Engine(EngineFault::from(fault))),
+    };
     let first = resources.len() as u32;
     uses_in(alloc, &model, first, waits.len() as u32, n)
+}
+
+// What is answered where a text of blocks is too long.
+pub(crate) fn too_long() -> PlanFault
+    ensures { result ≡ plan.Engine (engine.Blocks problem.InputTooLong) }
+{
+    PlanFault::Engine(EngineFault::Blocks(Problem::InputTooLong))
 }

@@ -1,7 +1,7 @@
 //! Prints a worth at a weight: billionths times millionths as a decimal, with a minus where it is needed, the whole
 //! part, and the fraction without trailing zeros.
 
-ghost use Rattle.std.specs.Prelude.{◌≡◌, ◌<◌, ◌^◌, Some};
+ghost use Rattle.std.specs.Prelude.{◌<◌, ◌^◌, Some};
 ghost use Rattle.std.specs.Fmt.{DisplaysOnOk, sign_text};
 ghost use Rattle.std.specs.Int.{is_negative};
 ghost use Rattle.fixed_worth.specs.Printed.{fraction_text, amount_text};

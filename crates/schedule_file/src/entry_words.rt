@@ -1,4 +1,4 @@
-//! Decides whether a line of a schedule is passed over, and finds the two fields of any other.
+//! Decides whether a line of a schedule is passed over, and finds the fields of any other.
 
 ghost use Rattle.std.specs.Prelude.{◌≡◌, ◌≤◌, None, Some, length, MatchOption};
 ghost use Rattle.fixed_worth.specs.Text.{fields_of};
@@ -19,34 +19,58 @@ pub(crate) fn is_passed(line: &[u8]) -> bool
     }
 }
 
-/// The first field of a line of two fields, which names its block; none of a line of any other form.
-pub(crate) fn block_word(line: &[u8]) -> Option<&[u8]>
+/// The first field of a line of two fields, or of three where there are ways, which names its block; none of a line of
+/// any other form.
+pub(crate) fn block_word(line: &[u8], ways: u32) -> Option<&[u8]>
     requires { length line.now ≤ LINE_BYTES }
     ensures { MatchOption result
-        (spec.block_word (fields_of line.now) ≡ None)
-        (λ word. spec.block_word (fields_of line.now) ≡ Some word.now) }
+        (spec.block_word ways (fields_of line.now) ≡ None)
+        (λ word. spec.block_word ways (fields_of line.now) ≡ Some word.now) }
 {
     let mut fields = Fields::new(line);
     let first = fields.next()?;
     let _second = fields.next()?;
     match fields.next() {
         None => Some(first.text),
-        Some(_) => None,
+        Some(_) => match fields.next() {
+            None => { if ways == 0 { None } else { Some(first.text) } }
+            Some(_) => None,
+        },
     }
 }
 
-/// The second field of a line of two fields, which names its period; none of a line of any other form.
-pub(crate) fn period_word(line: &[u8]) -> Option<&[u8]>
+/// The second field of such a line, which names its period.
+pub(crate) fn period_word(line: &[u8], ways: u32) -> Option<&[u8]>
     requires { length line.now ≤ LINE_BYTES }
     ensures { MatchOption result
-        (spec.period_word (fields_of line.now) ≡ None)
-        (λ word. spec.period_word (fields_of line.now) ≡ Some word.now) }
+        (spec.period_word ways (fields_of line.now) ≡ None)
+        (λ word. spec.period_word ways (fields_of line.now) ≡ Some word.now) }
 {
     let mut fields = Fields::new(line);
     let _first = fields.next()?;
     let second = fields.next()?;
     match fields.next() {
         None => Some(second.text),
+        Some(_) => match fields.next() {
+            None => { if ways == 0 { None } else { Some(second.text) } }
+            Some(_) => None,
+        },
+    }
+}
+
+/// The third field of a line of three fields, which names its way; none of a line of any other form.
+pub(crate) fn way_word(line: &[u8]) -> Option<&[u8]>
+    requires { length line.now ≤ LINE_BYTES }
+    ensures { MatchOption result
+        (spec.way_word (fields_of line.now) ≡ None)
+        (λ word. spec.way_word (fields_of line.now) ≡ Some word.now) }
+{
+    let mut fields = Fields::new(line);
+    let _first = fields.next()?;
+    let _second = fields.next()?;
+    let third = fields.next()?;
+    match fields.next() {
+        None => Some(third.text),
         Some(_) => None,
     }
 }

@@ -24,6 +24,7 @@ abbrev pub most_told : ℕ
 most_told = 20
 
 -- So many pairs are broken, and these are the first of them.
-pub record AreBroken (lag : ℕ) (schedule : ℕ → ℕ) (periods : ℕ) (pairs : List (ℕ × ℕ)) (count : ℕ) (told : List (ℕ × ℕ)) : Type 0 where
+pub record AreBroken (lag : ℕ) (schedule : ℕ → ℕ) (periods : ℕ) (pairs : List (ℕ × ℕ)) (count : ℕ)
+    (told : List (ℕ × ℕ)) : Type 0 where
   pub all : count ≡ length (broken_pairs lag schedule periods pairs)
   pub first : told ≡ take most_told (broken_pairs lag schedule periods pairs)

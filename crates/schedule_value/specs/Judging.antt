@@ -22,15 +22,26 @@ pub record JudgedView : Type 0 where
 
 -- what the type shows
 abbrev pub judged_view : Judged → JudgedView
-judged_view j = record { count = j.count; npv = j.npv; broken = j.broken.count; first = j.broken.first.items; early = j.early.count; first_early = j.early.first.items; over = j.over.items }
+judged_view j = record {
+  count = j.count;
+  npv = j.npv;
+  broken = j.broken.count;
+  first = j.broken.first.items;
+  early =
+      j.early.count;
+  first_early = j.early.first.items;
+  over = j.over.items;
+}
 
 -- This is what a schedule of a production comes to, whose predecessors are these pairs, and whose blocks wait so many
 -- periods for others by these. No pair is broken, none is too early and nowhere is more used than there is exactly
 -- where it is feasible and keeps the lag.
-pub record IsJudged (plan : Production) (schedule : ℕ → ℕ) (pairs : List (ℕ × ℕ)) (lag : ℕ) (waits : List (ℕ × ℕ)) (v : JudgedView) : Type 0 where
+pub record IsJudged (plan : Production) (schedule : ℕ → ℕ) (pairs : List (ℕ × ℕ)) (lag : ℕ) (waits : List (ℕ × ℕ))
+    (v : JudgedView) : Type 0 where
   pub count : v.count ≡ count_in (is_dug plan schedule) plan.mine.blocks
   pub npv : v.npv ≡ npv_of plan schedule
   pub broken : AreBroken 0 schedule plan.periods pairs v.broken v.first
   pub early : AreBroken lag schedule plan.periods waits v.early v.first_early
   pub over : v.over ≡ overs_in_rows plan schedule plan.resources
-  pub feasible : ((v.broken ≡ 0) × (v.early ≡ 0) × (v.over ≡ [])) ↔ (IsFeasible plan schedule × KeepsLags plan.periods lag (has_pair waits) schedule)
+  pub feasible : ((v.broken ≡ 0) × (v.early ≡ 0) × (v.over ≡ [])) ↔
+      (IsFeasible plan schedule × KeepsLags plan.periods lag (has_pair waits) schedule)

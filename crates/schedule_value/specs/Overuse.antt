@@ -9,7 +9,8 @@ is_over plan schedule r t = int_lt (plan.capacity r t) (used_in plan schedule r 
 
 -- what period t uses of resource r, and what it has
 abbrev pub over_at : Production → (ℕ → ℕ) → ℕ → ℕ → Over
-over_at plan schedule r t = record { resource = r; period = t; used = used_in plan schedule r t; capacity = plan.capacity r t }
+over_at plan schedule r t = record
+    { resource = r; period = t; used = used_in plan schedule r t; capacity = plan.capacity r t }
 
 abbrev pub over_if : Bool → Over → List Over
 over_if t over = cond t (over ∷ []) []
@@ -17,7 +18,8 @@ over_if t over = cond t (over ∷ []) []
 -- where that is so among the first periods, and among all periods of the first resources
 abbrev pub overs_in_row : Production → (ℕ → ℕ) → ℕ → ℕ → List Over
 overs_in_row plan schedule r zero = []
-overs_in_row plan schedule r (suc t) = overs_in_row plan schedule r t ++ over_if (is_over plan schedule r t) (over_at plan schedule r t)
+overs_in_row plan schedule r (suc t) = overs_in_row plan schedule r t ++ over_if (is_over plan schedule r t)
+    (over_at plan schedule r t)
 
 abbrev pub overs_in_rows : Production → (ℕ → ℕ) → ℕ → List Over
 overs_in_rows plan schedule zero = []

@@ -1,7 +1,7 @@
 //! Counts the pairs that a schedule breaks, and gives the first of them: of predecessors, which may be dug in the same
 //! period, and of blocks for which others wait so many periods.
 
-ghost use Rattle.std.specs.Prelude.{◌≡◌, ℕ, ◌+◌, ◌<◌, ◌≤◌, List, [], ◌∷◌, ◌++◌, take, length, IfOk, OnOk};
+ghost use Rattle.std.specs.Prelude.{◌≡◌, ℕ, ◌+◌, ◌<◌, List, [], ◌∷◌, ◌++◌, take, length, IfOk, OnOk};
 ghost use Rattle.prec_file.specs.Rests.{first_of};
 ghost use Rattle.prec_file.specs.declared.limits.TheConstants.{MOST_PAIRS};
 ghost use Rattle.schedule_value.specs.Breaking.{AreBroken, breaks, period_by};
@@ -28,7 +28,8 @@ fn pass_pair(broken: &mut BrokenPairs, pair: (u32, u32), is: bool) -> Result<(),
     ensures { OnOk result ((lag : ℕ) (schedule : ℕ → ℕ) (periods : ℕ) (ps : List (ℕ × ℕ))
         → breaks lag schedule periods pair ≡ is
         → AreBroken lag schedule periods ps broken.old.count broken.old.first.items
-        → AreBroken lag schedule periods (ps ++ pair ∷ []) broken.new.count broken.new.first.items) }
+        → AreBroken lag schedule periods (ps ++ pair
+        ∷ []) broken.new.count broken.new.first.items) }
 {
     if !is {
         return Ok(());
@@ -67,7 +68,8 @@ fn pass_block(
         (take (first_of predecessors.now.pairs b) predecessors.now.pairs)
         broken.old.count broken.old.first.items }
     ensures { OnOk result (AreBroken lag (period_by schedule.now) periods (take (first_of
-        predecessors.now.pairs (b + 1)) predecessors.now.pairs) broken.new.count broken.new.first.items) }
+        predecessors.now.pairs (b + 1)) predecessors.now.pairs) broken.new.count
+        broken.new.first.items) }
 {
     // proof: what is known of all pairs, that they are in order and of known blocks
     let _blocks = predecessors.len();

@@ -1,4 +1,4 @@
-//! Counts the blocks that a schedule digs.
+//! Counts the blocks that are dug in one of the periods.
 
 ghost use Rattle.std.specs.Prelude.{◌≡◌, ◌≤◌, cond, nat_lt, length};
 ghost use Rattle.ordered_group.specs.Sets.{count_in};

@@ -1,4 +1,5 @@
-//! Judges a schedule.
+//! Judges a schedule by all that it is asked for: its blocks, its worth, the pairs that it breaks or digs too early,
+//! and where it uses more than there is.
 
 ghost use Rattle.std.specs.Prelude.{◌≡◌, length, IfOk};
 ghost use Rattle.production_figures.specs.Figures.{production_of};

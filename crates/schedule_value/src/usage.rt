@@ -1,6 +1,6 @@
 //! What a schedule uses in each period, and where that is more than there is.
 
-ghost use Rattle.std.specs.Prelude.{◌≡◌, ◌<◌, ◌≤◌, ◌*◌, ◌^◌, pos, ◌+ℤ◌, ◌≤ℤ◌, cond, length, IfOk, OnOk, ◌==◌, [], ◌∷◌, ◌++◌, int_lt};
+ghost use Rattle.std.specs.Prelude.{◌≡◌, ◌<◌, ◌≤◌, ◌^◌, pos, ◌+ℤ◌, ◌≤ℤ◌, cond, length, IfOk, OnOk, ◌==◌, [], ◌++◌, int_lt};
 ghost use Rattle.schedules.specs.Production.{used_in};
 ghost use Rattle.production_figures.specs.Figures.{production_of};
 ghost use Rattle.schedule_value.specs.Breaking.{period_by};

@@ -1,4 +1,5 @@
-//! What a schedule is worth.
+//! Sums what the blocks of a schedule are worth, each at the weight of the period in which it is dug, in 128 bits,
+//! which no such sum leaves.
 
 ghost use Rattle.std.specs.Prelude.{◌≡◌, ◌+◌, ◌<◌, ◌^◌, pos, ◌+ℤ◌, cond, nat_lt, length, []};
 ghost use Rattle.schedules.specs.Production.{npv_of};

@@ -1,5 +1,6 @@
 -- Ways of treatment, and blocks that wait a period for others: the general bound.
-use Rattle.std.specs.Prelude.{ℕ, ◌+◌, ◌*◌, ◌/◌, ◌%◌, ◌<◌, ℤ, pos, ◌+ℤ◌, ◌-ℤ◌, ◌*ℤ◌, ◌≤ℤ◌, Bool, ◌&&◌, ◌||◌, ◌==◌, nat_lt, IsTrue}
+use Rattle.std.specs.Prelude.{ℕ, ◌+◌, ◌*◌, ◌/◌, ◌%◌, ◌<◌, ℤ, pos, ◌+ℤ◌, ◌-ℤ◌, ◌*ℤ◌, ◌≤ℤ◌, Bool, ◌&&◌, ◌||◌, ◌==◌}
+use Rattle.std.specs.Prelude.{nat_lt, IsTrue}
 use Rattle.closure_net.specs.Mine.{Mine, IsRichest, worth_of}
 use Rattle.schedules.specs.Production.{Production, IsFeasible, npv_of}
 use Rattle.schedules.specs.Expanded.{expanded, price_of_capacities, sum_below}
@@ -60,11 +61,15 @@ with_lags n periods lags mine = record {
 }
 
 abbrev pub treated_mine : Treated → (ℕ → ℕ → ℕ) → (ℕ → ℕ → ℤ) → Mine
-treated_mine treated price left = with_lags treated.mine.blocks treated.periods treated.lags (expanded (leaving treated left) price)
+treated_mine treated price left = with_lags treated.mine.blocks treated.periods treated.lags
+    (expanded (leaving treated left) price)
 
 -- Whatever the prices, whichever way each block goes, and however blocks lag: no feasible schedule is worth more than
 -- the richest pit of the nodes and all capacities at their prices.
 abbrev pub NoTreatmentIsWorthMore : Type 0
-NoTreatmentIsWorthMore = (treated : Treated) (price : ℕ → ℕ → ℕ) (left : ℕ → ℕ → ℤ) (pit : ℕ → Bool) (schedule way : ℕ → ℕ)
-    → LeavesNoMore treated price left → IsRichest (treated_mine treated price left) pit → IsTreatedFeasible treated schedule way
-    → npv_of (by_ways treated way) schedule ≤ℤ (worth_of (treated_mine treated price left) pit +ℤ price_of_capacities (by_ways treated way) price)
+NoTreatmentIsWorthMore = (treated : Treated) (price : ℕ → ℕ → ℕ) (left : ℕ → ℕ → ℤ) (pit : ℕ → Bool)
+    (schedule way : ℕ → ℕ)
+    → LeavesNoMore treated price left → IsRichest (treated_mine treated price left) pit
+    → IsTreatedFeasible treated schedule way
+    → npv_of (by_ways treated way) schedule ≤ℤ
+    (worth_of (treated_mine treated price left) pit +ℤ price_of_capacities (by_ways treated way) price)

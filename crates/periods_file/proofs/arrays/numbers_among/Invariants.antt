@@ -5,4 +5,5 @@ use Rattle.periods_file.proofs.ReadRows.{after}
 use Rattle.periods_file.proofs.arrays.numbers_among.Given as goal
 
 abbrev pub invariant-loop-value : goal.invariant-loop-value
-invariant-loop-value l = all_rows (number_row l.most) (items_view l.values.items) ≡ after l.numbers.items (all_rows (number_row l.most) (items_view (drop l.value-index l.values.items)))
+invariant-loop-value l = all_rows (number_row l.most) (items_view l.values.items) ≡ after l.numbers.items
+    (all_rows (number_row l.most) (items_view (drop l.value-index l.values.items)))

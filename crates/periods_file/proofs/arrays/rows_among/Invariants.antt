@@ -1,8 +1,10 @@
 use Rattle.std.proofs.Common.{◌≡◌, drop}
 use Rattle.toml.specs.View.{items_view}
-use Rattle.periods_file.specs.Prelude.{all_rows, row_of}
+use Rattle.periods_file.specs.Prelude.{all_rows, row_value_within}
 use Rattle.periods_file.proofs.ReadRows.{after}
 use Rattle.periods_file.proofs.arrays.rows_among.Given as goal
 
 abbrev pub invariant-loop-value : goal.invariant-loop-value
-invariant-loop-value l = all_rows (row_of l.most l.width) (items_view l.values.items) ≡ after l.numbers.items (all_rows (row_of l.most l.width) (items_view (drop l.value-index l.values.items)))
+invariant-loop-value l = all_rows (row_value_within l.most l.width) (items_view l.values.items)
+    ≡ after l.numbers.items (all_rows (row_value_within l.most l.width)
+    (items_view (drop l.value-index l.values.items)))

@@ -9,15 +9,19 @@ pub returns-in-Ok-Some-clause-value : goal.returns-in-Ok-Some-clause-value
 returns-in-Ok-Some-clause-value c =
     let found = table_get c.get.result c.name.result.now c.args.table.now.entries c.get.ensures.value in
     let member = rw (c.name.ensures, c.in-Some.is) at found in
-    let read : (rows_of 1000000000000 c.args.rows c.args.width) (view c.in-Some.value.now) ≡ Some c.in-Ok-Some.capacities.items = search (rules, c.in-Ok-Some.ensures, c.in-Ok-Some.field-0-is) in
-    ap (value_said Capacities (rows_of 1000000000000 c.args.rows c.args.width)) (sym member) ∙ ap (or_bad Capacities) read
+    let read : (rows_of 1000000000000 c.args.rows c.args.width) (view c.in-Some.value.now)
+    ≡ Some c.in-Ok-Some.capacities.items = search (rules, c.in-Ok-Some.ensures, c.in-Ok-Some.field-0-is) in
+    ap (value_said Capacities (rows_of 1000000000000 c.args.rows c.args.width)) (sym member)
+    ∙ ap (or_bad Capacities) read
 
 pub returns-in-Ok-None-clause-value : goal.returns-in-Ok-None-clause-value
 returns-in-Ok-None-clause-value c = λ other.
     let found = table_get c.get.result c.name.result.now c.args.table.now.entries c.get.ensures.value in
     let member = rw (c.name.ensures, c.in-Some.is) at found in
-    let bad : (rows_of 1000000000000 c.args.rows c.args.width) (view c.in-Some.value.now) ≡ None = search (rules, c.in-Ok-None.ensures, c.in-Ok-None.field-0-is) in
-    ap (value_said Capacities (rows_of 1000000000000 c.args.rows c.args.width)) (sym member) ∙ ap (or_bad Capacities) bad
+    let bad : (rows_of 1000000000000 c.args.rows c.args.width) (view c.in-Some.value.now) ≡ None = search
+    (rules, c.in-Ok-None.ensures, c.in-Ok-None.field-0-is) in
+    ap (value_said Capacities (rows_of 1000000000000 c.args.rows c.args.width)) (sym member)
+    ∙ ap (or_bad Capacities) bad
 
 pub returns-in-None-clause-value : goal.returns-in-None-clause-value
 returns-in-None-clause-value c = λ other.

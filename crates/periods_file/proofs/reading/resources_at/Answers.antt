@@ -9,18 +9,20 @@ pub returns-in-Ok-Some-clause-value : goal.returns-in-Ok-Some-clause-value
 returns-in-Ok-Some-clause-value c =
     let found = table_get c.get.result c.name.result.now c.args.table.now.entries c.get.ensures.value in
     let member = rw (c.name.ensures, c.in-Some.is) at found in
-    let read : (resources_of) (view c.in-Some.value.now) ≡ Some c.in-Ok-Some.resources.items = search (rules, c.in-Ok-Some.ensures.value, c.in-Ok-Some.field-0-is) in
-    ap (value_said Resources (resources_of)) (sym member) ∙ ap (or_bad Resources) read
+    let read : (resources_of c.args.ways c.args.rows) (view c.in-Some.value.now) ≡ Some c.in-Ok-Some.resources.items =
+    search (rules, c.in-Ok-Some.ensures.value, c.in-Ok-Some.field-0-is) in
+    ap (value_said Resources (resources_of c.args.ways c.args.rows)) (sym member) ∙ ap (or_bad Resources) read
 
 pub returns-in-Ok-None-clause-value : goal.returns-in-Ok-None-clause-value
 returns-in-Ok-None-clause-value c = λ other.
     let found = table_get c.get.result c.name.result.now c.args.table.now.entries c.get.ensures.value in
     let member = rw (c.name.ensures, c.in-Some.is) at found in
-    let bad : (resources_of) (view c.in-Some.value.now) ≡ None = search (rules, c.in-Ok-None.ensures.value, c.in-Ok-None.field-0-is) in
-    ap (value_said Resources (resources_of)) (sym member) ∙ ap (or_bad Resources) bad
+    let bad : (resources_of c.args.ways c.args.rows) (view c.in-Some.value.now) ≡ None = search
+    (rules, c.in-Ok-None.ensures.value, c.in-Ok-None.field-0-is) in
+    ap (value_said Resources (resources_of c.args.ways c.args.rows)) (sym member) ∙ ap (or_bad Resources) bad
 
 pub returns-in-None-clause-value : goal.returns-in-None-clause-value
 returns-in-None-clause-value c = λ other.
     let found = table_get c.get.result c.name.result.now c.args.table.now.entries c.get.ensures.value in
     let member = rw (c.name.ensures, c.in-None.is) at found in
-    ap (value_said Resources (resources_of)) (sym member)
+    ap (value_said Resources (resources_of c.args.ways c.args.rows)) (sym member)

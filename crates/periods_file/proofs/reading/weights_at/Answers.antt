@@ -9,14 +9,16 @@ pub returns-in-Ok-Some-clause-value : goal.returns-in-Ok-Some-clause-value
 returns-in-Ok-Some-clause-value c =
     let found = table_get c.get.result c.name.result.now c.args.table.now.entries c.get.ensures.value in
     let member = rw (c.name.ensures, c.in-Some.is) at found in
-    let read : (weights_of) (view c.in-Some.value.now) ≡ Some c.in-Ok-Some.weights.items = search (rules, c.in-Ok-Some.ensures.value, c.in-Ok-Some.field-0-is) in
+    let read : (weights_of) (view c.in-Some.value.now) ≡ Some c.in-Ok-Some.weights.items = search
+    (rules, c.in-Ok-Some.ensures.value, c.in-Ok-Some.field-0-is) in
     ap (value_said Weights (weights_of)) (sym member) ∙ ap (or_bad Weights) read
 
 pub returns-in-Ok-None-clause-value : goal.returns-in-Ok-None-clause-value
 returns-in-Ok-None-clause-value c = λ other.
     let found = table_get c.get.result c.name.result.now c.args.table.now.entries c.get.ensures.value in
     let member = rw (c.name.ensures, c.in-Some.is) at found in
-    let bad : (weights_of) (view c.in-Some.value.now) ≡ None = search (rules, c.in-Ok-None.ensures.value, c.in-Ok-None.field-0-is) in
+    let bad : (weights_of) (view c.in-Some.value.now) ≡ None = search
+    (rules, c.in-Ok-None.ensures.value, c.in-Ok-None.field-0-is) in
     ap (value_said Weights (weights_of)) (sym member) ∙ ap (or_bad Weights) bad
 
 pub returns-in-None-clause-value : goal.returns-in-None-clause-value

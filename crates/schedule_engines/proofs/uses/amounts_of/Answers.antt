@@ -1,4 +1,4 @@
-use Rattle.std.proofs.Common.{◌≡◌, ℕ, ◌/◌, ◌%◌, ◌<◌, ◌*◌, pos, slice_index, arith}
+use Rattle.std.proofs.Common.{◌/◌, ◌%◌, ◌<◌, ◌*◌, slice_index, arith}
 use Rattle.schedule_engines.specs.Uses.{IsUse, use_in}
 use Rattle.schedule_engines.proofs.UsesRead.{first_wrong, is_use}
 use Rattle.schedule_engines.proofs.uses.amounts_of.Goals as goal

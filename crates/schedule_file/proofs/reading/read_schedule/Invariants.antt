@@ -4,7 +4,7 @@ use Rattle.schedule_file.proofs.reading.read_schedule.Given as goal
 
 abbrev pub invariant-loop-line : goal.invariant-loop-line
 invariant-loop-line l = record {
-  going : ReadSoFar l.n l.periods l.text l.schedule.items l.lines;
+  going : ReadSoFar l.n l.periods l.ways l.text l.schedule.items l.lines;
   all : length l.schedule.items ≡ l.n;
 }
 

@@ -14,4 +14,5 @@ returns c =
     let v = c.args.predecessors.now in
     let end : c.loop-b.b ≡ v.blocks = omega arith in
     let all = ap (λ (k : ℕ). take (first_of v.pairs k) v.pairs) end ∙ all_passed v c.len-blocks.ensures.all in
-    subst (λ (ps : List (ℕ × ℕ)). AreBroken c.args.lag (period_by c.args.schedule.now) c.args.periods ps c.loop-b.broken.count c.loop-b.broken.first.items) all c.loop-b.invariant
+    subst (λ (ps : List (ℕ × ℕ)). AreBroken c.args.lag (period_by c.args.schedule.now) c.args.periods ps
+    c.loop-b.broken.count c.loop-b.broken.first.items) all c.loop-b.invariant

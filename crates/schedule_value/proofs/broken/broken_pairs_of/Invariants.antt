@@ -4,4 +4,5 @@ use Rattle.schedule_value.specs.Prelude.{AreBroken, period_by}
 use Rattle.schedule_value.proofs.broken.broken_pairs_of.Given as goal
 
 abbrev pub invariant-loop-b : goal.invariant-loop-b
-invariant-loop-b l = AreBroken l.lag (period_by l.schedule) l.periods (take (first_of l.predecessors.pairs l.b) l.predecessors.pairs) l.broken.count l.broken.first.items
+invariant-loop-b l = AreBroken l.lag (period_by l.schedule) l.periods
+    (take (first_of l.predecessors.pairs l.b) l.predecessors.pairs) l.broken.count l.broken.first.items

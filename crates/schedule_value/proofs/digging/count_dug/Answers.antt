@@ -8,4 +8,11 @@ bit true = omega arith
 bit false = omega arith
 
 pub overflow_add-count : goal.overflow_add-count
-overflow_add-count c = omega (arith, c.loop-b.invariant, count_in-most (λ b. nat_lt (period_by c.args.schedule.now b) c.args.periods) c.loop-b.b, bit (nat_lt (period_by c.args.schedule.now c.loop-b.b) c.args.periods), c.one_if_dug-count.ensures)
+overflow_add-count c = omega (
+  arith,
+  c.loop-b.invariant,
+  count_in-most (λ b. nat_lt (period_by c.args.schedule.now b) c.args.periods)
+      c.loop-b.b,
+  bit (nat_lt (period_by c.args.schedule.now c.loop-b.b) c.args.periods),
+  c.one_if_dug-count.ensures,
+)

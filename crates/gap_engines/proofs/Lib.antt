@@ -1,0 +1,4 @@
+pub mod GapsTold
+pub mod ComparedPart
+pub mod SchedulesFailing
+pub mod KnownWays

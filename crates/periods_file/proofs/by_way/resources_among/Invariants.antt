@@ -1,0 +1,9 @@
+use Rattle.std.proofs.Common.{◌≡◌, drop}
+use Rattle.toml.specs.View.{items_view}
+use Rattle.periods_file.specs.Prelude.{all_rows, resource_row}
+use Rattle.periods_file.proofs.ReadRows.{after}
+use Rattle.periods_file.proofs.by_way.resources_among.Given as goal
+
+abbrev pub invariant-loop-value : goal.invariant-loop-value
+invariant-loop-value l = all_rows (resource_row l.ways) (items_view l.values.items) ≡ after l.columns.items
+    (all_rows (resource_row l.ways) (items_view (drop l.value-index l.values.items)))

@@ -1,0 +1,3 @@
+pub mod PlanNets
+pub mod PlanSolved
+pub mod PlansFound

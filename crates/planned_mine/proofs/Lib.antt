@@ -1,0 +1,4 @@
+pub mod TextsBeside
+pub mod TextsFailing
+pub mod Expanding
+pub mod FiguredWays
