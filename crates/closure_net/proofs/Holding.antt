@@ -1,5 +1,6 @@
 -- What a list of blocks holds.
-use Rattle.fixed_worth.proofs.Common.{◌≡◌, ℕ, ◌<◌, ◌==◌, Bool, true, false, List, length, get_or, refl, arith, Any-from_list_any, list_any_at, eq-eqb, common_steps}
+use Rattle.fixed_worth.proofs.Common.{◌≡◌, ℕ, ◌<◌, ◌==◌, Bool, true, false, List, length, get_or, refl, arith}
+use Rattle.fixed_worth.proofs.Common.{Any-from_list_any, list_any_at, eq-eqb, common_steps}
 use Rattle.closure_net.specs.Network.{holds_of}
 
 -- a test has one answer

@@ -1,8 +1,12 @@
 -- A search that has passed over all that it found has reached the least set.
-use Rattle.fixed_worth.proofs.Common.{◌≡◌, ℕ, ◌+◌, ◌<◌, ◌≤◌, ◌==◌, nat_lt, Bool, true, inl, inr, List, length, get_or, sym, ap, subst, ◌∙◌, arith, All, length-append, cases_eq, eq-eqb, eqb-true, ltb-true, or_left, get_or-map, get_or_default, length-map, get_or_append_left, common_steps, list_any-append}
+use Rattle.fixed_worth.proofs.Common.{◌≡◌, ℕ, ◌+◌, ◌<◌, ◌≤◌, ◌==◌, nat_lt, Bool, true, inl, inr, List, length, get_or}
+use Rattle.fixed_worth.proofs.Common.{sym, ap, subst, ◌∙◌, arith, All, length-append, cases_eq, eq-eqb, eqb-true}
+use Rattle.fixed_worth.proofs.Common.{ltb-true, or_left, get_or-map, get_or_default, length-map, get_or_append_left}
+use Rattle.fixed_worth.proofs.Common.{common_steps, list_any-append}
 use Rattle.prec_file.specs.Rests.{from_at, to_at, numbers_passing, numbers, above_of, below_of, IsKnown}
 use Rattle.prec_file.proofs.Passing.{passing_at, passing_here, passing_after, passing_grows}
-use Rattle.closure_net.specs.Prelude.{HasSourceResidual, Carries, Reaches, IsReached, NetView, FlowView, holds_of, IsAscending, PassedPlaces, Always, above_at, sender_at, SendsAt, Extends}
+use Rattle.closure_net.specs.Prelude.{HasSourceResidual, Carries, Reaches, IsReached, NetView, FlowView, holds_of}
+use Rattle.closure_net.specs.Prelude.{IsAscending, PassedPlaces, Always, above_at, sender_at, SendsAt, Extends}
 use Rattle.closure_net.proofs.Holding.{holds_at, place_of}
 
 -- a list that becomes longer keeps what it holds, and where
@@ -19,23 +23,28 @@ length_grows old new e = omega (arith, ap length e.is, length-append old e.more)
 -- lack
 pub record Searched (net : NetView) (flow : FlowView) (found : List ℕ) (h : ℕ) : Type 0 where
   pub begun : (b : ℕ) → b < length net.worths → HasSourceResidual net.worths flow.source b → holds_of found b ≡ true
-  pub down : (i k : ℕ) → i < h → k < length net.pairs → from_at net.pairs k ≡ get_or found i 0 → holds_of found (to_at net.pairs k) ≡ true
-  pub up : (i k : ℕ) → i < h → k < length net.pairs → Carries flow.rest k → to_at net.pairs k ≡ get_or found i 0 → holds_of found (from_at net.pairs k) ≡ true
+  pub down : (i k : ℕ) → i < h → k < length net.pairs → from_at net.pairs k ≡ get_or found i 0
+      → holds_of found (to_at net.pairs k) ≡ true
+  pub up : (i k : ℕ) → i < h → k < length net.pairs → Carries flow.rest k → to_at net.pairs k ≡ get_or found i 0
+      → holds_of found (from_at net.pairs k) ≡ true
   pub sound : (c : ℕ → Bool) → Reaches net flow c → (x : ℕ) → holds_of found x ≡ true → c x ≡ true
 
 module _ (net : NetView) (flow : FlowView) (b : ℕ) where
   -- what is found among the pairs of b
-  down_here : (old new : List ℕ) → PassedPlaces Always (above_at net.pairs b) old new (length (above_of net.pairs b)) → (k : ℕ) → k < length net.pairs → from_at net.pairs k ≡ b → holds_of new (to_at net.pairs k) ≡ true
+  down_here : (old new : List ℕ) → PassedPlaces Always (above_at net.pairs b) old new (length (above_of net.pairs b))
+      → (k : ℕ) → k < length net.pairs → from_at net.pairs k ≡ b → holds_of new (to_at net.pairs k) ≡ true
   down_here old new p k l e =
       let t = eq-eqb (from_at net.pairs k) b e in
       let ks = numbers (from_at net.pairs) b (length net.pairs) in
       let j = length (numbers (from_at net.pairs) b k) in
       let inside = passing_after (λ i. from_at net.pairs i == b) k (length net.pairs) l t in
       let h = p.upto j (omega (arith, inside, length-map ks (to_at net.pairs))) tt in
-      let at = get_or-map (to_at net.pairs) ks j 0 0 inside ∙ ap (to_at net.pairs) (passing_here (λ i. from_at net.pairs i == b) k (length net.pairs) l t) in
+      let at = get_or-map (to_at net.pairs) ks j 0 0 inside
+      ∙ ap (to_at net.pairs) (passing_here (λ i. from_at net.pairs i == b) k (length net.pairs) l t) in
       ap (holds_of new) (sym at) ∙ h
 
-  down_only : (c : ℕ → Bool) → Reaches net flow c → c b ≡ true → (j x : ℕ) → j < length (above_of net.pairs b) → above_at net.pairs b j ≡ x → c x ≡ true
+  down_only : (c : ℕ → Bool) → Reaches net flow c → c b ≡ true → (j x : ℕ) → j < length (above_of net.pairs b)
+      → above_at net.pairs b j ≡ x → c x ≡ true
   down_only c r e j x l q =
       let ks = numbers (from_at net.pairs) b (length net.pairs) in
       let inside : j < length ks = omega (arith, length-map ks (to_at net.pairs)) in
@@ -45,7 +54,9 @@ module _ (net : NetView) (flow : FlowView) (b : ℕ) where
       let d = r.down k p.below (ap c (eqb-true (from_at net.pairs k) b p.passes) ∙ e) in
       ap c (sym q ∙ at) ∙ d
 
-  up_here : (old new : List ℕ) → PassedPlaces (SendsAt net.pairs flow.rest b) (sender_at net.pairs b) old new (length (below_of net.pairs b)) → (k : ℕ) → k < length net.pairs → Carries flow.rest k → to_at net.pairs k ≡ b → holds_of new (from_at net.pairs k) ≡ true
+  up_here : (old new : List ℕ) → PassedPlaces (SendsAt net.pairs flow.rest b) (sender_at net.pairs b) old new
+      (length (below_of net.pairs b)) → (k : ℕ) → k < length net.pairs → Carries flow.rest k → to_at net.pairs k ≡ b
+      → holds_of new (from_at net.pairs k) ≡ true
   up_here old new p k l w e =
       let t = eq-eqb (to_at net.pairs k) b e in
       let j = length (numbers (to_at net.pairs) b k) in
@@ -60,8 +71,10 @@ module _ (net : NetView) (flow : FlowView) (b : ℕ) where
       → PassedPlaces (SendsAt net.pairs flow.rest b) (sender_at net.pairs b) mid new (length (below_of net.pairs b))
       → Searched net flow new (h + 1)
   searched_more old mid new h s l e p q =
-      let grows : (x : ℕ) → holds_of old x ≡ true → holds_of new x ≡ true = λ x t. holds_grows mid new x q.grown (holds_grows old mid x p.grown t) in
-      let same : (i : ℕ) → i < length old → get_or new i 0 ≡ get_or old i 0 = λ i r. get_grows mid new i q.grown (omega (arith, length_grows old mid p.grown)) ∙ get_grows old mid i p.grown r in
+      let grows : (x : ℕ) → holds_of old x ≡ true → holds_of new x ≡ true = λ x t. holds_grows mid new x q.grown
+      (holds_grows old mid x p.grown t) in
+      let same : (i : ℕ) → i < length old → get_or new i 0 ≡ get_or old i 0 = λ i r. get_grows mid new i q.grown
+      (omega (arith, length_grows old mid p.grown)) ∙ get_grows old mid i p.grown r in
       record {
         begun = λ x r w. grows x (s.begun x r w);
         down = λ i k r t z. elim (cases_eq i h) [
@@ -88,33 +101,47 @@ module _ (net : NetView) (flow : FlowView) (b : ℕ) where
       }
 
 -- where all that is found was looked at
-pub searched_reaches : (net : NetView) (flow : FlowView) (found : List ℕ) (h : ℕ) → Searched net flow found h → length found ≤ h → Reaches net flow (holds_of found)
+pub searched_reaches : (net : NetView) (flow : FlowView) (found : List ℕ) (h : ℕ) → Searched net flow found h
+    → length found ≤ h → Reaches net flow (holds_of found)
 searched_reaches net flow found h s l = grind (arith, common_steps, place_of)
 
 -- the known blocks are such a set
-all_reach : (net : NetView) (flow : FlowView) → All (IsKnown (length net.worths)) net.pairs → Reaches net flow (λ x. nat_lt x (length net.worths))
+all_reach : (net : NetView) (flow : FlowView) → All (IsKnown (length net.worths)) net.pairs
+    → Reaches net flow (λ x. nat_lt x (length net.worths))
 all_reach net flow h = grind (arith, common_steps)
 
 -- a list of all that pass below n holds what passes
 passing_holds : (e : ℕ → Bool) (n x : ℕ) → x < n → e x ≡ true → holds_of (numbers_passing e n) x ≡ true
-passing_holds e n x l t = grind (arith, common_steps, (passing_here e x n l t), (holds_at (numbers_passing e n) (length (numbers_passing e x)) (passing_after e x n l t)), (passing_after e x n l t))
+passing_holds e n x l t = grind (
+  arith,
+  common_steps,
+  (passing_here e x n l t),
+  (holds_at (numbers_passing e n) (length (numbers_passing e x)) (passing_after e x n l t)),
+  (passing_after e x n l t),
+)
 
 passing_held : (e : ℕ → Bool) (n x : ℕ) → holds_of (numbers_passing e n) x ≡ true → e x ≡ true
 passing_held e n x t = grind (arith, common_steps, place_of, passing_at)
 
 -- the search's end
-pub reached : (net : NetView) (flow : FlowView) (found : List ℕ) (h n : ℕ) (pit : List ℕ) → n ≡ length net.worths → All (IsKnown (length net.worths)) net.pairs → Searched net flow found h → length found ≤ h → pit ≡ numbers_passing (holds_of found) n → IsReached net flow (holds_of pit)
+pub reached : (net : NetView) (flow : FlowView) (found : List ℕ) (h n : ℕ) (pit : List ℕ) → n ≡ length net.worths
+    → All (IsKnown (length net.worths)) net.pairs → Searched net flow found h → length found ≤ h
+    → pit ≡ numbers_passing (holds_of found) n → IsReached net flow (holds_of pit)
 reached net flow found h n pit e k s l q =
     let r = searched_reaches net flow found h s l in
     let e' = holds_of found in
-    let known : (x : ℕ) → e' x ≡ true → x < n = λ x t. let z = ltb-true x (length net.worths) (s.sound _ (all_reach net flow k) x t) in omega (arith, z, e) in
+    let known : (x : ℕ) → e' x ≡ true → x < n = λ x t. let z = ltb-true x (length net.worths)
+    (s.sound _ (all_reach net flow k) x t) in omega (arith, z, e) in
     let P : List ℕ → Type 0 = λ xs. IsReached net flow (holds_of xs) in
-    let known_to : (i : ℕ) → i < length net.pairs → (from_at net.pairs i < length net.worths) × (to_at net.pairs i < length net.worths) = λ i z. k i (0, 0) z in
+    let known_to : (i : ℕ) → i < length net.pairs → (from_at net.pairs i < length net.worths)
+    × (to_at net.pairs i < length net.worths) = λ i z. k i (0, 0) z in
     let all : IsReached net flow (holds_of (numbers_passing e' n)) = (
       record {
         begins = λ b z w. passing_holds e' n b (omega (arith, e)) (r.begins b z w);
-        down = λ i z t. passing_holds e' n (to_at net.pairs i) (omega (arith, e, (known_to i z).1)) (r.down i z (passing_held e' n (from_at net.pairs i) t));
-        up = λ i z w t. passing_holds e' n (from_at net.pairs i) (omega (arith, e, (known_to i z).0)) (r.up i z w (passing_held e' n (to_at net.pairs i) t));
+        down = λ i z t. passing_holds e' n (to_at net.pairs i) (omega (arith, e, (known_to i z).1))
+            (r.down i z (passing_held e' n (from_at net.pairs i) t));
+        up = λ i z w t. passing_holds e' n (from_at net.pairs i) (omega (arith, e, (known_to i z).0))
+            (r.up i z w (passing_held e' n (to_at net.pairs i) t));
       },
       λ c d x t. s.sound c d x (passing_held e' n x t),
     ) in
@@ -129,5 +156,6 @@ passing_known e n pit q =
     let P : List ℕ → Type 0 = λ xs. All (λ b. b < n) xs in
     subst P (sym q) (λ k d l.
     let p = passing_at e n k l in
-    let z : get_or (numbers_passing e n) k 0 ≡ get_or (numbers_passing e n) k d = get_or_default (numbers_passing e n) k 0 d l in
+    let z : get_or (numbers_passing e n) k 0 ≡ get_or (numbers_passing e n) k d = get_or_default (numbers_passing e n)
+    k 0 d l in
     omega (arith, p.below, z))

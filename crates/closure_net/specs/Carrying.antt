@@ -1,5 +1,6 @@
 -- What arcs carry, as it is kept.
-use Rattle.std.specs.Prelude.{◌≡◌, ◌≢◌, ℕ, zero, suc, ◌<◌, ◌≤◌, ◌^◌, [], ◌∷◌, Option, None, Some, List, map, length, All, slice_index_or}
+use Rattle.std.specs.Prelude.{◌≡◌, ◌≢◌, ℕ, zero, suc, ◌<◌, ◌≤◌, ◌^◌, [], ◌∷◌, Option, None, Some, List, map, length}
+use Rattle.std.specs.Prelude.{All, slice_index_or}
 use Rattle.ordered_group.specs.Prelude.{Amount, zero_amount, amount_at}
 
 -- the amount of a place, where places begin with 1 and 0 is that of nothing
@@ -23,4 +24,5 @@ pub record ArePlaces (places : List ℕ) (amounts : ℕ) : Type 0 where
   pub few : length places < 2 ^ 32
   pub inside : All (λ p. p ≤ amounts) places
   pub count : amounts ≡ placed_count places
-  pub apart : (i j : ℕ) → i < length places → j < length places → slice_index_or places i 0 ≡ slice_index_or places j 0 → slice_index_or places i 0 ≢ 0 → i ≡ j
+  pub apart : (i j : ℕ) → i < length places → j < length places
+      → slice_index_or places i 0 ≡ slice_index_or places j 0 → slice_index_or places i 0 ≢ 0 → i ≡ j

@@ -18,4 +18,5 @@ group_worth ws pit = total (λ b. where_so (pit b) (amount_at ws b)) (length ws)
 -- the set is closed, and no closed set sums to more
 pub record IsGreatest (net : NetView) (pit : ℕ → Bool) : Type 0 where
   pub closed : IsClosed net.pairs pit
-  pub most : (other : ℕ → Bool) → IsClosed net.pairs other → AtMost (group_worth net.worths other) (group_worth net.worths pit)
+  pub most : (other : ℕ → Bool) → IsClosed net.pairs other
+      → AtMost (group_worth net.worths other) (group_worth net.worths pit)

@@ -1,6 +1,7 @@
 -- When a net can't be built, and how that prints.
 use Rattle.std.specs.Prelude.{◌≡◌, ◌≢◌, ℕ, ◌<◌, ℤ, pos, ◌⊎◌, List, length, map, slice_index_or, codes}
-use Rattle.ordered_group.specs.Prelude.{Amount, zero_amount, minus, positive, FitsPair, amount_at, SumFits, SumOverflows}
+use Rattle.ordered_group.specs.Prelude.{Amount, zero_amount, minus, positive, FitsPair, amount_at, SumFits}
+use Rattle.ordered_group.specs.Prelude.{SumOverflows}
 use Rattle.closure_net.specs.declared.net.NetFault.{NetFault}
 use Rattle.closure_net.specs.declared.net.NetFault.TheVariants.{WrongLength, TooLarge, NoMemory}
 
@@ -42,7 +43,8 @@ BlockOverflows block n vs = (b : ℕ) × (b < length vs) × ¬ (FitsPair (block 
 -- doesn't fit; or memory is refused, which is asked for only where the lengths agree.
 abbrev pub WorthsFaultStands : (ℤ → ℕ → Amount) → ℕ → List ℤ → NetFault → Type 0
 WorthsFaultStands block n vs WrongLength = n ≢ length vs
-WorthsFaultStands block n vs TooLarge = (n ≡ length vs) × (BlockOverflows block n vs ⊎ WorthsOverflow (map (λ v. block v n) vs))
+WorthsFaultStands block n vs TooLarge = (n ≡ length vs)
+    × (BlockOverflows block n vs ⊎ WorthsOverflow (map (λ v. block v n) vs))
 WorthsFaultStands block n vs NoMemory = n ≡ length vs
 
 -- The fault's name.

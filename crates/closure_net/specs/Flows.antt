@@ -1,6 +1,7 @@
 -- Flows of a net.
 use Rattle.std.specs.Prelude.{◌≡◌, ℕ, ◌<◌, Bool, List, length}
-use Rattle.ordered_group.specs.Prelude.{Amount, zero_amount, plus, minus, AtMost, positive, negative, total, at_end, amount_at}
+use Rattle.ordered_group.specs.Prelude.{Amount, zero_amount, plus, minus, AtMost, positive, negative, total, at_end}
+use Rattle.ordered_group.specs.Prelude.{amount_at}
 use Rattle.prec_file.specs.Rests.{from_at, to_at}
 use Rattle.closure_net.specs.Network.{NetView, FlowView, FlowFits}
 use Rattle.closure_net.specs.Closure.{group_worth}
@@ -15,7 +16,8 @@ outflow ps fs m b = at_end (from_at ps) (amount_at fs) m b
 
 -- what b gets from the source and over pairs is what it gives to the sink and over pairs
 abbrev pub IsBalancedAt : NetView → FlowView → ℕ → Type 0
-IsBalancedAt net flow b = plus (amount_at flow.source b) (inflow net.pairs flow.rest (length net.pairs) b) ≡ plus (amount_at flow.sink b) (outflow net.pairs flow.rest (length net.pairs) b)
+IsBalancedAt net flow b = plus (amount_at flow.source b) (inflow net.pairs flow.rest (length net.pairs) b) ≡ plus
+    (amount_at flow.sink b) (outflow net.pairs flow.rest (length net.pairs) b)
 
 -- the source gives at most the positive part of a worth, and the sink takes at most its negative part
 abbrev pub Within : Amount → Amount → Amount → Type 0
@@ -53,4 +55,5 @@ IsTight net flow e = group_worth net.worths e ≡ source_residual net flow
 -- no flow takes more from the source
 pub record IsGreatestFlow (net : NetView) (flow : FlowView) : Type 0 where
   pub is_flow : IsFlow net flow
-  pub most : (other : FlowView) → IsFlow net other → AtMost (total (amount_at other.source) (length net.worths)) (total (amount_at flow.source) (length net.worths))
+  pub most : (other : FlowView) → IsFlow net other → AtMost (total (amount_at other.source) (length net.worths))
+      (total (amount_at flow.source) (length net.worths))

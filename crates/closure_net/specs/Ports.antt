@@ -37,7 +37,9 @@ backward_ports from to m b = map (backward_port from) (numbers to b m)
 -- The ports of a block b that is worth w, where m pairs have these ends: the sink where w is negative, each block that
 -- b rests on, each block that rests on b, and the source where w is positive.
 unfoldable pub port_list : (ℕ → ℕ) → (ℕ → ℕ) → ℕ → Amount → ℕ → List Port
-port_list from to m w b = cond (is_below w zero_amount) (sink_port b ∷ []) [] ++ (forward_ports from to m b ++ (backward_ports from to m b ++ cond (is_below zero_amount w) (source_port b ∷ []) []))
+port_list from to m w b = cond (is_below w zero_amount) (sink_port b ∷ []) []
+    ++ (forward_ports from to m b
+    ++ (backward_ports from to m b ++ cond (is_below zero_amount w) (source_port b ∷ []) []))
 
 -- the ports of block b of a net
 abbrev pub ports : NetView → ℕ → List Port

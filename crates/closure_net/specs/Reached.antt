@@ -17,8 +17,10 @@ Carries fs k = ¬ (AtMost (amount_at fs k) zero_amount)
 pub record Reaches (net : NetView) (flow : FlowView) (e : ℕ → Bool) : Type 0 where
   pub begins : (b : ℕ) → b < length net.worths → HasSourceResidual net.worths flow.source b → IsTrue (e b)
   pub down : (k : ℕ) → k < length net.pairs → IsTrue (e (from_at net.pairs k)) → IsTrue (e (to_at net.pairs k))
-  pub up : (k : ℕ) → k < length net.pairs → Carries flow.rest k → IsTrue (e (to_at net.pairs k)) → IsTrue (e (from_at net.pairs k))
+  pub up : (k : ℕ) → k < length net.pairs → Carries flow.rest k → IsTrue (e (to_at net.pairs k))
+      → IsTrue (e (from_at net.pairs k))
 
 -- the least such set
 abbrev pub IsReached : NetView → FlowView → (ℕ → Bool) → Type 0
-IsReached net flow e = Reaches net flow e × ((c : ℕ → Bool) → Reaches net flow c → (b : ℕ) → IsTrue (e b) → IsTrue (c b))
+IsReached net flow e = Reaches net flow e
+    × ((c : ℕ → Bool) → Reaches net flow c → (b : ℕ) → IsTrue (e b) → IsTrue (c b))

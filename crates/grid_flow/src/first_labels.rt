@@ -1,10 +1,10 @@
 //! The labels that the blocks of a search have before it.
 
-ghost use Rattle.std.specs.Prelude.{◌≡◌, ◌<◌, ◌≤◌, ◌-◌, ◌^◌, length, IfOk};
+ghost use Rattle.std.specs.Prelude.{◌≡◌, ◌<◌, ◌-◌, ◌^◌, length, IfOk};
 
 use crate::placed_above::PlacedAbove;
+use net_part::{Labels, PseudoflowFault, WaysUp};
 use places::Precedence;
-use pseudoflow::{Labels, PseudoflowFault, WaysUp};
 use std::alloc::Global;
 
 /// The labels before the search: at most how many steps up lead from a block, at the fewest, to one of no positive
@@ -19,7 +19,7 @@ use std::alloc::Global;
 pub(crate) fn first_labels<P: Precedence>(
     alloc: Global,
     above: &PlacedAbove<'_, P>,
-    worths: &[i64],
+    worths: &[i128],
 ) -> Result<Labels, PseudoflowFault>
     requires worths { length worths.now ≡ above.now }
     requires few { above.now < 2 ^ 32 - 2 }

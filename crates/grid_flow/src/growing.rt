@@ -5,22 +5,19 @@ ghost use Rattle.std.specs.Prelude.{◌≡◌, length, IfOk};
 use crate::first_labels::first_labels;
 use crate::numbering::{Numbering, numbering_of};
 use crate::placed_above::PlacedAbove;
+use net_part::{Budget, Link, Part, PseudoflowFault};
 use places::Precedence;
-use pseudoflow::{Budget, Grown, Link, Part, Progress, PseudoflowFault, grow};
+use pseudoflow::{Grown, Progress, grow};
 use std::alloc::Global;
 
 // What each of these blocks is worth.
-//
-// # Errors
-// `TooLarge` where 64 bits are too few.
-fn small_worths(alloc: Global, nanos: &[i128], blocks: &[Link]) -> Result<Vec<i64>, PseudoflowFault>
+fn worths_of(alloc: Global, nanos: &[i128], blocks: &[Link]) -> Result<Vec<i128>, PseudoflowFault>
     ensures { IfOk result (λ v. length v.items ≡ length blocks.now) }
 {
     let mut worths = Vec::with_capacity(alloc, blocks.len())?;
     for block in blocks {
         let b = block.block(nanos.len()).ok_or(PseudoflowFault::Broken)?;
-        let worth = i64::try_from(nanos[b as usize]).map_err(|_| PseudoflowFault::TooLarge)?;
-        worths.push_reserved(worth);
+        worths.push_reserved(nanos[b as usize]);
     }
     Ok(worths)
 }
@@ -43,7 +40,7 @@ fn copied(alloc: Global, links: &[Link]) -> Result<Vec<Link>, PseudoflowFault>
 /// turns are taken, of which each is one look at a block, at a way up from one, or at a label.
 ///
 /// # Errors
-/// `Unsettled` where all turns are used up; `TooLarge` where a worth doesn't fit 64 bits, or a sum doesn't fit 128;
+/// `Unsettled` where all turns are used up; `TooLarge` where a worth in units or a sum of them doesn't fit 128 bits;
 /// `NoMemory` where memory was refused; `Broken` where the search made a mistake, which no mine is known to bring
 /// about.
 pub fn grow_by_places<P: Precedence, T: Progress>(
@@ -59,9 +56,9 @@ pub fn grow_by_places<P: Precedence, T: Progress>(
         return Err(PseudoflowFault::Broken);
     }
     let count = blocks.len() as u32;
-    let worths = small_worths(alloc, nanos, &blocks)?;
+    let worths = worths_of(alloc, nanos, &blocks)?;
     let above = PlacedAbove::new(held, copied(alloc, &blocks)?, numbers, count);
-    let labels = first_labels(alloc, &above, &worths)?;
+    let labels = first_labels(alloc, &above, worths.as_slice())?;
     let part = Part::new(blocks, above, labels);
-    grow(alloc, part, &worths, held.len(), &mut budget, progress)
+    grow(alloc, part, worths, held.len(), &mut budget, progress)
 }

@@ -2,8 +2,8 @@
 
 ghost use Rattle.std.specs.Prelude.{◌≡◌, ◌<◌, ◌≤◌, IfOk, length};
 
+use net_part::{Budget, Link, NO_LINK, PseudoflowFault};
 use places::Precedence;
-use pseudoflow::{Budget, Link, NO_LINK, PseudoflowFault};
 use std::alloc::{AllocError, Global};
 use std::marker::Model;
 

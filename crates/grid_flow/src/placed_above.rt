@@ -1,9 +1,9 @@
 //! What the blocks of a search rest on, asked of their places.
 
-ghost use Rattle.std.specs.Prelude.{◌≡◌, ◌<◌, ◌≤◌, length, IfSome};
+ghost use Rattle.std.specs.Prelude.{◌≡◌, ◌<◌, length, IfSome};
 
+use net_part::{Labels, Link, Look, WaysUp};
 use places::Precedence;
-use pseudoflow::{Labels, Link, Look, WaysUp};
 use std::marker::Model;
 
 /// Who precedes whom among the blocks of a search, by the numbers of the search.

@@ -4,3 +4,4 @@ pub mod GridWays
 pub mod Boxes
 pub mod Sights
 pub mod DeltaSteps
+pub mod NodeWays

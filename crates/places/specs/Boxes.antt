@@ -2,8 +2,9 @@
 use Rattle.std.specs.Prelude.{◌≡◌, ℕ, ◌+◌, ◌*◌, ◌<◌, ◌≤◌, pos, ◌+ℤ◌, ◌-ℤ◌, List, length, slice_index_or}
 use Rattle.blocks_file.specs.declared.place.Place.{Place}
 use Rattle.blocks_file.specs.Denotes.{BlocksView}
-use Rattle.slope.specs.Prelude.{Offset, place_of, upward}
-use Rattle.slope.specs.declared.up.Up.{Up}
+use Rattle.slope_offsets.specs.Prelude.{Offset}
+use Rattle.slope.specs.Prelude.{block_place, upward}
+use Rattle.slope_offsets.specs.declared.up.Up.{Up}
 use Rattle.places.specs.declared.padded_box.PaddedBox.{PaddedBox}
 
 -- the cell of a spot in a box whose rows have sx cells, and whose levels have sy rows
@@ -42,7 +43,7 @@ nothing = (pos 0, pos 0, pos 0)
 -- the first n blocks are in these cells
 pub record AreLows (s : PaddedBox) (up : Up) (m : BlocksView) (n : ℕ) (lows : List ℕ) : Type 0 where
   pub size : length lows ≡ n
-  pub laid : (b : ℕ) → b < n → IsIn s up (place_of m b) (slice_index_or lows b 0)
+  pub laid : (b : ℕ) → b < n → IsIn s up (block_place m b) (slice_index_or lows b 0)
 
 -- the first n offsets are these cells
 pub record AreRaised (s : PaddedBox) (offsets : List Offset) (n : ℕ) (deltas : List ℕ) : Type 0 where

@@ -1,5 +1,6 @@
 -- Places in a padded box, by numbers of cells.
-use Rattle.std.specs.Prelude.{All, ◌≡◌, ◌≢◌, ℕ, zero, suc, ◌+◌, ◌-◌, ◌^◌, ◌<◌, ◌≤◌, ◌==◌, ◌&&◌, ◌||◌, nat_lt, Bool, false, Option, Some, None, List, length, slice_index_or}
+use Rattle.std.specs.Prelude.{All, ◌≡◌, ◌≢◌, ℕ, zero, suc, ◌+◌, ◌-◌, ◌^◌, ◌<◌, ◌≤◌, ◌==◌, ◌&&◌, ◌||◌, nat_lt, Bool}
+use Rattle.std.specs.Prelude.{false, Option, Some, None, List, length, slice_index_or}
 use Rattle.fixed_worth.specs.declared.limits.TheConstants.{MOST_BLOCKS}
 use Rattle.places.specs.Ways.{PrecedenceView}
 use Rattle.places.specs.declared.cells.GridFault.{GridFault}
@@ -42,8 +43,8 @@ abbrev pub block_in : ℕ → Option ℕ
 block_in zero = None
 block_in (suc b) = Some b
 
-abbrev pub way_at : GridView → ℕ → ℕ → Option ℕ
-way_at g b k = block_in (slice_index_or g.cells (cell_at g b k) 0)
+abbrev pub grid_way : GridView → ℕ → ℕ → Option ℕ
+grid_way g b k = block_in (slice_index_or g.cells (cell_at g b k) 0)
 
 -- whether a number below m passes
 abbrev pub any_below : (ℕ → Bool) → ℕ → Bool
@@ -60,7 +61,7 @@ rests_at g b p = (nat_lt b (length g.lows) && nat_lt p (length g.lows)) && leads
 
 -- the precedence of a grid
 abbrev pub gridded : GridView → PrecedenceView
-gridded g = record { blocks = length g.lows; rests = rests_at g; ways = ways_at g; way = way_at g }
+gridded g = record { blocks = length g.lows; rests = rests_at g; ways = ways_at g; way = grid_way g }
 
 -- Each block has a region with deltas; no delta leads out of the padded box, or nowhere; each block is in its cell, and
 -- in no other.
@@ -70,7 +71,8 @@ pub record IsGrid (g : GridView) : Type 0 where
   pub region : (b : ℕ) → b < length g.lows → region_at g b + 1 < length g.starts
   pub starts : (r : ℕ) → r + 1 < length g.starts → slice_index_or g.starts (r + 1) 0 ≤ length g.deltas
   pub few : length g.cells < 2 ^ 32
-  pub inside : (b j : ℕ) → b < length g.lows → j < length g.deltas → low_at g b + slice_index_or g.deltas j 0 < length g.cells
+  pub inside : (b j : ℕ) → b < length g.lows → j < length g.deltas
+      → low_at g b + slice_index_or g.deltas j 0 < length g.cells
   pub away : (j : ℕ) → j < length g.deltas → slice_index_or g.deltas j 0 ≢ g.centre
   pub within : (b : ℕ) → b < length g.lows → home_at g b < length g.cells
   pub home : (b : ℕ) → b < length g.lows → slice_index_or g.cells (home_at g b) 0 ≡ b + 1

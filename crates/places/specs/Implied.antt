@@ -6,13 +6,13 @@ use Rattle.prec_file.specs.Rests.{numbers_passing, RestsView, IsKnown, IsRising,
 use Rattle.places.specs.Ways.{PrecedenceView}
 
 -- the pairs of block b, by the predecessors below n
-abbrev pub row_of : (ℕ → ℕ → Bool) → ℕ → ℕ → List (ℕ × ℕ)
-row_of test n b = map (λ p. (b, p)) (numbers_passing (test b) n)
+abbrev pub block_pairs : (ℕ → ℕ → Bool) → ℕ → ℕ → List (ℕ × ℕ)
+block_pairs test n b = map (λ p. (b, p)) (numbers_passing (test b) n)
 
 -- the pairs of the blocks below m, by block and then by predecessor
 abbrev pub pairs_below : (ℕ → ℕ → Bool) → ℕ → ℕ → List (ℕ × ℕ)
 pairs_below test n zero = []
-pairs_below test n (suc m) = pairs_below test n m ++ row_of test n m
+pairs_below test n (suc m) = pairs_below test n m ++ block_pairs test n m
 
 -- the pairs of a precedence
 abbrev pub implied : PrecedenceView → RestsView

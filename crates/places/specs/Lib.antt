@@ -10,7 +10,13 @@ pub mod Boxes
 pub mod Placed
 -- the region of each block
 pub mod Regions
+-- blocks in periods
+pub mod Nodes
 -- a list or a grid, whichever a mine has
+pub mod Held
+-- what nodes are made of
+pub mod Timed
+-- either, or nodes, lent
 pub mod Holders
 -- the names of all of them
 pub mod Prelude

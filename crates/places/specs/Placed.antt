@@ -1,23 +1,22 @@
 -- Who rests on whom by places, and by the offsets of a block's own region.
-use Rattle.std.specs.Prelude.{◌≡◌, ◌≢◌, ◌↔◌, ℕ, ◌+◌, ◌<◌, ◌≤◌, IsTrue, List, [], length, slice_index_or}
+use Rattle.std.specs.Prelude.{◌≡◌, ◌≢◌, ◌↔◌, ℕ, ◌+◌, ◌<◌, ◌≤◌, IsTrue, List, length, slice_index_or}
 use Rattle.blocks_file.specs.Denotes.{BlocksView}
-use Rattle.slope.specs.Prelude.{Offset, IsSlopePair, AreApartBelow, IsFirstRepeat}
-use Rattle.slope.specs.declared.up.Up.{Up}
+use Rattle.slope_offsets.specs.Prelude.{Offset, listed_at}
+use Rattle.slope.specs.Prelude.{IsSlopePair, AreApartBelow, IsFirstRepeat}
+use Rattle.slope_offsets.specs.declared.up.Up.{Up}
 use Rattle.places.specs.declared.cells.GridFault.{GridFault}
 use Rattle.places.specs.declared.cells.GridFault.TheVariants.{SamePlace, TooWide, NoMemory}
 use Rattle.places.specs.declared.padded_box.PaddedBox.{PaddedBox}
 use Rattle.places.specs.Boxes.{AreLows, IsRaised, cell_of, nothing}
 use Rattle.places.specs.Grids.{GridView, rests_at, region_at}
 
--- the offsets of a region
-abbrev pub offsets_of : List (List Offset) → ℕ → List Offset
-offsets_of slopes r = slice_index_or slopes r []
-
 -- No two blocks have one place, and b rests on p exactly where p stands at an offset of b's own region from it.
-pub record ArePlaced (m : BlocksView) (up : Up) (slopes : List (List Offset)) (regions : List ℕ) (g : GridView) : Type 0 where
+pub record ArePlaced (m : BlocksView) (up : Up) (slopes : List (List Offset)) (regions : List ℕ) (g : GridView) : Type
+    0 where
   pub apart : AreApartBelow m m.blocks
   pub blocks : length g.lows ≡ m.blocks
-  pub pairs : (b p : ℕ) → IsTrue (rests_at g b p) ↔ IsSlopePair m (offsets_of slopes (slice_index_or regions b 0)) up (b, p)
+  pub pairs : (b p : ℕ) → IsTrue (rests_at g b p) ↔ IsSlopePair m (listed_at slopes (slice_index_or regions b 0)) up
+      (b, p)
 
 -- The fault stands: the first block that has an earlier one's place. Nothing is said of the others.
 abbrev pub PlacesFaultStands : BlocksView → GridFault → Type 0
@@ -30,8 +29,10 @@ pub record AreDeltas (s : PaddedBox) (slopes : List (List Offset)) (n : ℕ) (st
   pub size : length starts ≡ n + 1
   pub last : slice_index_or starts n 0 ≡ length deltas
   pub within : (r : ℕ) → r ≤ n → slice_index_or starts r 0 ≤ length deltas
-  pub ways : (r : ℕ) → r < n → slice_index_or starts (r + 1) 0 ≡ slice_index_or starts r 0 + length (offsets_of slopes r)
-  pub raised : (r k : ℕ) → r < n → k < length (offsets_of slopes r) → IsRaised s (slice_index_or (offsets_of slopes r) k nothing) (slice_index_or deltas (slice_index_or starts r 0 + k) 0)
+  pub ways : (r : ℕ) → r < n → slice_index_or starts (r + 1) 0 ≡ slice_index_or starts r 0 + length (listed_at slopes r)
+  pub raised : (r k : ℕ) → r < n → k < length (listed_at slopes r)
+      → IsRaised s (slice_index_or (listed_at slopes r) k nothing)
+      (slice_index_or deltas (slice_index_or starts r 0 + k) 0)
 
 -- no two blocks have one cell
 abbrev pub LowsApart : List ℕ → Type 0

@@ -12,7 +12,7 @@ pub record PrecedenceView : Type 0 where
   pub way : ℕ → ℕ → Option ℕ
 
 -- way k of block b leads to p
-pub record Leads (v : PrecedenceView) (b p k : ℕ) : Type 0 where
+pub record WayLeads (v : PrecedenceView) (b p k : ℕ) : Type 0 where
   pub inside : k < v.ways b
   pub there : v.way b k ≡ Some p
 
@@ -20,11 +20,17 @@ pub record Leads (v : PrecedenceView) (b p k : ℕ) : Type 0 where
 -- never itself.
 pub record IsPrecedence (v : PrecedenceView) : Type 0 where
   pub few : v.blocks ≤ MOST_BLOCKS
-  pub sound : (b p k : ℕ) → b < v.blocks → Leads v b p k → IsTrue (v.rests b p)
-  pub found : (b p : ℕ) → IsTrue (v.rests b p) → (k : ℕ) × Leads v b p k
+  pub sound : (b p k : ℕ) → b < v.blocks → WayLeads v b p k → IsTrue (v.rests b p)
+  pub found : (b p : ℕ) → IsTrue (v.rests b p) → (k : ℕ) × WayLeads v b p k
   pub known : (b p : ℕ) → IsTrue (v.rests b p) → (b < v.blocks) × (p < v.blocks)
   pub apart : (b : ℕ) → ¬ (IsTrue (v.rests b b))
 
 -- the pairs of a list
 abbrev pub listed : RestsView → PrecedenceView
-listed r = record { blocks = r.blocks; rests = has_pair r.pairs; ways = λ b. length (above_of r.pairs b); way = λ b k. slice_get (above_of r.pairs b) k }
+listed r = record {
+  blocks = r.blocks;
+  rests = has_pair r.pairs;
+  ways = λ b. length (above_of r.pairs b);
+  way = λ b k.
+      slice_get (above_of r.pairs b) k;
+}

@@ -1,6 +1,6 @@
 //! Which block is in which cell. Two blocks in one cell are refused.
 
-ghost use Rattle.std.specs.Prelude.{◌≡◌, ◌+◌, ◌<◌, ◌≤◌, ℕ, length, slice_index_or, MatchResult};
+ghost use Rattle.std.specs.Prelude.{◌+◌, ◌<◌, ◌≤◌, ℕ, length, slice_index_or, MatchResult};
 ghost use Rattle.places.specs.Grids.{AreCells, GridFaultStands};
 
 use fixed_worth::MOST_BLOCKS;

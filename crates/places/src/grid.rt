@@ -1,6 +1,6 @@
 //! Blocks in the cells of a padded box: the block at an offset is found by one sum and one look.
 
-ghost use Rattle.std.specs.Prelude.{◌≡◌, ◌≢◌, ◌↔◌, ◌<◌, ◌≤◌, ℕ, IsTrue, MatchOption, IfOk, MatchResult, length};
+ghost use Rattle.std.specs.Prelude.{◌≡◌, ◌<◌, IsTrue, IfOk, MatchResult, length};
 ghost use Rattle.places.specs.Grids.{GridFaultStands, RegionsFit, LeadAway, CellsFit};
 ghost use Rattle.places.specs.Grids as spec;
 
@@ -51,9 +51,23 @@ pub struct Grid {
 impl Model for Grid {
     ghost Value = { spec.GridView };
 
-    ghost view = { λ g. record { lows = g.lows.items; regions = g.regions.items; centre = g.centre; starts = g.starts.items; deltas = g.deltas.items; cells = g.cells.items } };
+    ghost view = { λ g. record {
+      lows = g.lows.items;
+      regions = g.regions.items;
+      centre = g.centre;
+      starts = g.starts.items;
+      deltas = g.deltas.items;
+      cells = g.cells.items;
+    } };
 
-    ghost invariant = { λ g. spec.IsGrid (record { lows = g.lows.items; regions = g.regions.items; centre = g.centre; starts = g.starts.items; deltas = g.deltas.items; cells = g.cells.items }) };
+    ghost invariant = { λ g. spec.IsGrid (record {
+      lows = g.lows.items;
+      regions = g.regions.items;
+      centre = g.centre;
+      starts = g.starts.items;
+      deltas = g.deltas.items;
+      cells = g.cells.items;
+    }) };
 }
 
 // The block of a cell, if one is there.

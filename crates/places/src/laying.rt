@@ -8,7 +8,7 @@ use crate::cells::GridFault;
 use crate::grid::{Grid, GridParts};
 use crate::padded_box::{PaddedBox, box_of, centre_of, delta_of, low_of};
 use blocks_file::BlockModel;
-use slope::Up;
+use slope_offsets::Up;
 use std::alloc::Global;
 
 // The cell of each block.
@@ -62,7 +62,8 @@ fn deltas_of(
     of: &PaddedBox,
     slopes: &[Vec<(i32, i32, i32)>],
 ) -> Result<(Vec<u32>, Vec<u32>), Lack>
-    ensures { IfOk result (λ made. AreDeltas of.now (map (λ v. v.items) slopes.now) (length slopes.now)
+    ensures { IfOk result
+        (λ made. AreDeltas of.now (map (λ v. v.items) slopes.now) (length slopes.now)
         made.0.items made.1.items) }
 {
     let mut starts: Vec<u32> = Vec::new(alloc);

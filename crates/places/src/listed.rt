@@ -1,4 +1,4 @@
-//! The pairs of a list, block after block.
+//! A list of pairs as a precedence: the ways of a block lead to the blocks that the list has for it, in order.
 
 use crate::Precedence;
 use prec_file::Predecessors;

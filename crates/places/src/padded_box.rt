@@ -1,11 +1,11 @@
 //! A padded box, the cell of a place in it, and the cell to which an offset leads, or nothing where one isn't inside.
 
-ghost use Rattle.std.specs.Prelude.{◌≡◌, ◌<◌, ◌≤◌, ◌^◌, ◌+ℤ◌, pos, IfSome};
+ghost use Rattle.std.specs.Prelude.{◌≡◌, ◌<◌, ◌+ℤ◌, pos, IfSome};
 ghost use Rattle.slope.specs.Slopes.{upward};
 ghost use Rattle.places.specs.Boxes.{IsIn, IsRaised, cell_of};
 
 use blocks_file::{BlockModel, Place};
-use slope::Up;
+use slope_offsets::Up;
 
 /// The box of a grid: its least coordinates, the third counted upward; how many cells a row has, and rows a level; and
 /// how far offsets reach along each axis.

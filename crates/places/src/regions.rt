@@ -1,9 +1,10 @@
-//! The region of each block, by a column of its model.
+//! Reads the region of each block out of a column of its model: a whole number below that of the regions, or the first
+//! block whose value is none.
 
 ghost use Rattle.std.specs.Prelude.{◌≡◌, ◌≤◌, ◌<◌, ℕ, length, MatchOption, MatchResult};
-ghost use Rattle.places.specs.Regions.{IsRegion, AreRegions, RegionFaultStands};
+ghost use Rattle.places.specs.Regions.{IsRegion, AreRegions, RegionColumnFaultStands};
 
-use crate::region_fault::RegionFault;
+use crate::region_column_fault::RegionColumnFault;
 use blocks_file::BlockModel;
 use fixed_worth::Micros;
 use std::alloc::Global;
@@ -47,20 +48,20 @@ pub fn regions_of(
     model: &BlockModel,
     column: u32,
     count: usize,
-) -> Result<Vec<u8>, RegionFault>
+) -> Result<Vec<u8>, RegionColumnFault>
     requires column { column < length model.now.columns }
     requires few { count ≤ MOST_REGIONS }
     ensures { MatchResult result
         (λ v. AreRegions model.now column count model.now.blocks v.items)
-        (RegionFaultStands model.now column count) }
+        (RegionColumnFaultStands model.now column count) }
 {
     let mut regions = Vec::new(alloc);
     for b in 0..model.len() {
         let Some(region) = region_in(model.column(column, b), count) else {
-            return Err(RegionFault::NoRegion(b));
+            return Err(RegionColumnFault::NoRegion(b));
         };
         if regions.push(region).is_err() {
-            return Err(RegionFault::NoMemory);
+            return Err(RegionColumnFault::NoMemory);
         }
     }
     Ok(regions)

@@ -1,10 +1,5 @@
-pub mod Gathering
-pub mod OffsetSorting
-pub mod Distances
-pub mod ConeSteps
 pub mod Finding
 pub mod PairSteps
-pub mod OffsetFinding
 pub mod KeyFinding
 pub mod EntryOrder
 pub mod Repeats

@@ -1,9 +1,10 @@
 -- The lists of regions, one after another.
-use Rattle.fixed_worth.proofs.Common.{◌≡◌, ◌≢◌, ℕ, ◌+◌, ◌<◌, ◌≤◌, List, [], ◌∷◌, ◌++◌, length, get_or, take, map, ℤ, Contains, All, refl, sym, ap, subst, ◌∙◌, arith, inl, inr, cases_lt, get_or-map, length-map, get_or_append_left, get_or-append_seam, get_or_past, length-append, take_more, Contains-append_left, Contains-append_right}
+use Rattle.fixed_worth.proofs.Common.{◌≡◌, ℕ, ◌+◌, ◌<◌, List, [], ◌∷◌, ◌++◌, length, get_or, map, ℤ, Contains, refl}
+use Rattle.fixed_worth.proofs.Common.{sym, ap, subst, ◌∙◌, arith, inl, inr, cases_lt, get_or-map, get_or_append_left}
+use Rattle.fixed_worth.proofs.Common.{get_or-append_seam, get_or_past, length-append}
 use Rattle.std.specs.Global.{Vec}
-use Rattle.blocks_file.specs.Denotes.{BlocksView}
-use Rattle.slope.specs.declared.pattern.TheConstants.{MOST_OFFSETS}
-use Rattle.slope.specs.Prelude.{Offset, IsPattern, AreOffsets, AreOfListed, HoldsOf, listed_at}
+use Rattle.slope_offsets.specs.Prelude.{Offset, IsPattern, AreOffsets, listed_at}
+use Rattle.slope.specs.Prelude.{AreOfListed}
 
 -- what holds below k and at k
 pub below_more : (P : ℕ → Type 0) (k : ℕ) → ((s : ℕ) → s < k → P s) → P k → (s : ℕ) → s < k + 1 → P s
@@ -13,23 +14,15 @@ below_more P k f p s l = elim (cases_lt s k) [
 ]
 
 -- region r of lists
-pub list_at : (vs : List (Vec Offset)) (r : ℕ) (d : Vec Offset) → r < length vs → listed_at (map (λ (w : Vec (ℤ × ℤ × ℤ)). w.items) vs) r ≡ (get_or vs r d).items
+pub list_at : (vs : List (Vec Offset)) (r : ℕ) (d : Vec Offset) → r < length vs
+    → listed_at (map (λ (w : Vec (ℤ × ℤ × ℤ)). w.items) vs) r ≡ (get_or vs r d).items
 list_at vs r d l = get_or-map (λ (w : Vec (ℤ × ℤ × ℤ)). w.items) vs r d [] l
 
--- one pattern more
-module _ (ps : List (List Offset)) (k : ℕ) (all : List Offset) (h : HoldsOf ps k all) where
-  pub holds_more : (p grown : List Offset) → listed_at ps k ≡ p → grown ≡ all ++ p → HoldsOf ps (k + 1) grown
-  holds_more p grown at e r o l c = elim (cases_lt r k) [
-    | inl below ↦ subst (λ xs. Contains xs o) (sym e) (Contains-append_left all p o (h r o below c))
-    | inr least ↦
-        let same : r ≡ k = omega (arith, l, least) in
-        let there : Contains p o = subst (λ xs. Contains xs o) (ap (listed_at ps) same ∙ at) c in
-        subst (λ xs. Contains xs o) (sym e) (Contains-append_right all p o there)
-  ]
-
 -- the list of one region more has its pattern
-module _ (listed patterns : List (List Offset)) (h : AreOfListed listed patterns) (xs p : List Offset) (are : AreOffsets (Contains xs) p) (pattern : IsPattern p) where
-  last : (zs : List (List Offset)) (x : List Offset) (r : ℕ) → r < length zs → listed_at (zs ++ x ∷ []) r ≡ listed_at zs r
+module _ (listed patterns : List (List Offset)) (h : AreOfListed listed patterns) (xs p : List Offset)
+    (are : AreOffsets (Contains xs) p) (pattern : IsPattern p) where
+  last : (zs : List (List Offset)) (x : List Offset) (r : ℕ) → r < length zs
+      → listed_at (zs ++ x ∷ []) r ≡ listed_at zs r
   last zs x r l = get_or_append_left zs (x ∷ []) [] r l
 
   seam : (zs : List (List Offset)) (x : List Offset) (r : ℕ) → r ≡ length zs → listed_at (zs ++ x ∷ []) r ≡ x
@@ -38,14 +31,20 @@ module _ (listed patterns : List (List Offset)) (h : AreOfListed listed patterns
   beyond : (zs : List (List Offset)) (x : List Offset) (r : ℕ) → length zs < r → listed_at (zs ++ x ∷ []) r ≡ []
   beyond zs x r l = get_or_past (zs ++ x ∷ []) r [] (omega (arith, length-append zs (x ∷ []), l))
 
-  moved : (from to : List (List Offset)) (y z : List Offset) → length from ≡ length to → ((r : ℕ) (o : Offset) → Contains (listed_at from r) o → Contains (listed_at to r) o) → ((o : Offset) → Contains y o → Contains z o) → (r : ℕ) (o : Offset) → Contains (listed_at (from ++ y ∷ []) r) o → Contains (listed_at (to ++ z ∷ []) r) o
+  moved : (from to : List (List Offset)) (y z : List Offset) → length from ≡ length to
+      → ((r : ℕ) (o : Offset) → Contains (listed_at from r) o → Contains (listed_at to r) o)
+      → ((o : Offset) → Contains y o → Contains z o) → (r : ℕ) (o : Offset)
+      → Contains (listed_at (from ++ y ∷ []) r) o → Contains (listed_at (to ++ z ∷ []) r) o
   moved from to y z same f g r o c = elim (cases_lt r (length from)) [
-    | inl below ↦ subst (λ ws. Contains ws o) (sym (last to z r (omega (arith, below, same)))) (f r o (subst (λ ws. Contains ws o) (last from y r below) c))
+    | inl below ↦ subst (λ ws. Contains ws o) (sym (last to z r (omega (arith, below, same))))
+        (f r o (subst (λ ws. Contains ws o) (last from y r below) c))
     | inr least ↦ elim (cases_lt (length from) r) [
-      | inl past ↦ let nothing = subst (λ ws. Contains ws o) (beyond from y r past) c in let bad = nothing.1 in absurd (omega (arith, bad))
+      | inl past ↦ let nothing = subst (λ ws. Contains ws o) (beyond from y r past) c in let bad = nothing.1 in absurd
+          (omega (arith, bad))
       | inr most ↦
           let e : r ≡ length from = omega (arith, least, most) in
-          subst (λ ws. Contains ws o) (sym (seam to z r (e ∙ same))) (g o (subst (λ ws. Contains ws o) (seam from y r e) c))
+          subst (λ ws. Contains ws o) (sym (seam to z r (e ∙ same)))
+          (g o (subst (λ ws. Contains ws o) (seam from y r e) c))
     ]
   ]
 
@@ -54,7 +53,8 @@ module _ (listed patterns : List (List Offset)) (h : AreOfListed listed patterns
     as_many = length-append patterns (p ∷ []) ∙ ap (λ n. n + 1) h.as_many ∙ sym (length-append listed (xs ∷ []));
     are = λ r l. elim (cases_lt r (length patterns)) [
       | inl below ↦ subst IsPattern (sym (last patterns p r below)) (h.are r below)
-      | inr least ↦ let e : r ≡ length patterns = omega (arith, l, least, length-append patterns (p ∷ [])) in subst IsPattern (sym (seam patterns p r e)) pattern
+      | inr least ↦ let e : r ≡ length patterns = omega (arith, l, least, length-append patterns (p ∷ [])) in subst
+          IsPattern (sym (seam patterns p r e)) pattern
     ];
     held = moved listed patterns xs p (sym h.as_many) h.held are.held;
     only = moved patterns listed p xs h.as_many h.only are.only;

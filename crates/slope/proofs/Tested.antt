@@ -1,18 +1,23 @@
 -- Who rests on whom by the slopes of regions, as a test; and that no fault stands where there are pairs.
-use Rattle.fixed_worth.proofs.Common.{◌≡◌, ◌≢◌, ◌↔◌, ℕ, ◌<◌, ◌≤◌, ℤ, true, IsTrue, List, length, get_or, refl, ap, sym, ◌∙◌, arith, AllPairs, All, Contains, and_parts, and_from, nat_lt, lt-ltb, ltb-true, list_any, list_any-from_Any, Any-from_list_any, Decides-int_eq, get_or_default}
+use Rattle.fixed_worth.proofs.Common.{◌≡◌, ◌↔◌, ℕ, ◌<◌, ◌≤◌, true, IsTrue, List, length, get_or, refl, ap, sym, ◌∙◌}
+use Rattle.fixed_worth.proofs.Common.{arith, Contains, and_parts, and_from, lt-ltb, ltb-true, list_any}
+use Rattle.fixed_worth.proofs.Common.{list_any-from_Any, Any-from_list_any, Decides-int_eq, get_or_default}
 use Rattle.blocks_file.specs.Denotes.{BlocksView}
 use Rattle.prec_file.specs.Prelude.{RestsView}
 use Rattle.prec_file.specs.declared.limits.TheConstants.{MOST_PAIRS}
-use Rattle.slope.specs.Prelude.{AreMoreThan, AreOwnSlopes, IsOwnPair, IsSelected, Offset, is_offset, offset_between, own_offsets, place_of, rests_by_slopes}
-use Rattle.slope.specs.declared.selection.Selection.{Selection}
-use Rattle.slope.specs.declared.selection.Selection.TheVariants.{Every}
-use Rattle.slope.specs.declared.up.Up.{Up}
+use Rattle.slope_offsets.specs.Prelude.{AreMoreThan, Offset}
+use Rattle.slope.specs.Prelude.{AreOwnSlopes, IsOwnPair, IsSelected, is_offset, offset_between, own_offsets}
+use Rattle.slope.specs.Prelude.{block_place, rests_by_slopes}
+use Rattle.slope_offsets.specs.declared.selection.Selection.{Selection}
+use Rattle.slope_offsets.specs.declared.selection.Selection.TheVariants.{Every}
+use Rattle.slope_offsets.specs.declared.up.Up.{Up}
 use Rattle.slope.proofs.Narrow.{at_most}
 
 same_offset : (o q : Offset) → q ≡ o → is_offset o q ≡ true
 same_offset o q e =
     and_from _ _ ((Decides-int_eq q.0 o.0).1 (ap (λ (x : Offset). x.0) e))
-    (and_from _ _ ((Decides-int_eq q.1 o.1).1 (ap (λ (x : Offset). x.1) e)) ((Decides-int_eq q.2 o.2).1 (ap (λ (x : Offset). x.2) e)))
+    (and_from _ _ ((Decides-int_eq q.1 o.1).1 (ap (λ (x : Offset). x.1) e))
+    ((Decides-int_eq q.2 o.2).1 (ap (λ (x : Offset). x.2) e)))
 
 offset_same : (o q : Offset) → is_offset o q ≡ true → q ≡ o
 offset_same o q t =
@@ -36,7 +41,7 @@ module _ (listed : List (List Offset)) (m : BlocksView) (up : Up) (b p : ℕ) wh
   pub pair_tested : IsOwnPair m (own_offsets listed m) up (b, p) → IsTrue (rests_by_slopes listed m up b p)
   pair_tested h =
       and_from _ _ (and_from _ _ (lt-ltb b m.blocks h.bottom) (lt-ltb p m.blocks h.top))
-      (listed_offset (own_offsets listed m b) (offset_between up (place_of m b) (place_of m p)) h.offset)
+      (listed_offset (own_offsets listed m b) (offset_between up (block_place m b) (block_place m p)) h.offset)
 
   pub tested_pair : IsTrue (rests_by_slopes listed m up b p) → IsOwnPair m (own_offsets listed m) up (b, p)
   tested_pair t =
@@ -45,19 +50,28 @@ module _ (listed : List (List Offset)) (m : BlocksView) (up : Up) (b p : ℕ) wh
       record {
         bottom = ltb-true b m.blocks blocks.0;
         top = ltb-true p m.blocks blocks.1;
-        offset = offset_listed (own_offsets listed m b) (offset_between up (place_of m b) (place_of m p)) first.1;
+        offset = offset_listed (own_offsets listed m b) (offset_between up (block_place m b) (block_place m p)) first.1;
       }
 
 -- every pair in order is one of the test's
-pub pairs_tested : (listed : List (List Offset)) (m : BlocksView) (up : Up) (rests : RestsView) → AreOwnSlopes m (own_offsets listed m) up Every rests → (b p : ℕ) → Contains rests.pairs (b, p) ↔ IsTrue (rests_by_slopes listed m up b p)
-pairs_tested listed m up rests s b p = (λ c. pair_tested listed m up b p (s.only (b, p) c), λ t. s.held (b, p) (tested_pair listed m up b p t))
+pub pairs_tested : (listed : List (List Offset)) (m : BlocksView) (up : Up) (rests : RestsView)
+    → AreOwnSlopes m (own_offsets listed m) up Every rests → (b p : ℕ)
+    → Contains rests.pairs (b, p) ↔ IsTrue (rests_by_slopes listed m up b p)
+pairs_tested listed m up rests s b p =
+    (λ c. pair_tested listed m up b p (s.only (b, p) c), λ t. s.held (b, p) (tested_pair listed m up b p t))
 
 -- where all that are selected are listed, they aren't more than the list has
-pub not_more : (m : BlocksView) (own : ℕ → List Offset) (up : Up) (selection : Selection) (rests : RestsView) → AreOwnSlopes m own up selection rests → length rests.pairs ≤ MOST_PAIRS → AreMoreThan MOST_PAIRS (IsSelected selection m own up) → ⊥
+pub not_more : (m : BlocksView) (own : ℕ → List Offset) (up : Up) (selection : Selection) (rests : RestsView)
+    → AreOwnSlopes m own up selection rests → length rests.pairs ≤ MOST_PAIRS
+    → AreMoreThan MOST_PAIRS (IsSelected selection m own up) → ⊥
 not_more m own up selection rests s most more =
-    let held : (i : ℕ) → i < length more.some → Contains rests.pairs (get_or more.some i (0, 0)) = λ i l. s.held (get_or more.some i (0, 0)) (more.all i (0, 0) l) in
-    let few = at_most (length rests.pairs) (length more.some) (λ i l. (held i l).0) (λ i l. (held i l).1) (λ i j l h r e.
+    let held : (i : ℕ) → i < length more.some → Contains rests.pairs (get_or more.some i (0, 0)) = λ i l. s.held
+    (get_or more.some i (0, 0)) (more.all i (0, 0) l) in
+    let few = at_most (length rests.pairs) (length more.some) (λ i l. (held i l).0) (λ i l. (held i l).1)
+    (λ i j l h r e.
     let x = held i l in
     let y = held j h in
-    more.apart i j (0, 0) r h (sym x.2 ∙ get_or_default rests.pairs x.0 (get_or more.some i (0, 0)) (get_or more.some j (0, 0)) x.1 ∙ ap (λ k. get_or rests.pairs k (get_or more.some j (0, 0))) e ∙ y.2)) in
+    more.apart i j (0, 0) r h
+    (sym x.2 ∙ get_or_default rests.pairs x.0 (get_or more.some i (0, 0)) (get_or more.some j (0, 0)) x.1
+    ∙ ap (λ k. get_or rests.pairs k (get_or more.some j (0, 0))) e ∙ y.2)) in
     omega (arith, few, more.more, most)

@@ -1,13 +1,19 @@
 -- Pairs that lead over a third block, and the steps of a pattern that add up to another.
-use Rattle.fixed_worth.proofs.Common.{◌≡◌, ◌≢◌, ◌⊎◌, ℕ, ◌<◌, ℤ, ◌-ℤ◌, ◌+◌, List, [], ◌∷◌, ◌++◌, length, length-append, get_or, Contains, All, All-contains, refl, Bool, sym, ap, subst, ◌∙◌, arith, inl, inr, ints, cases_lt, cases_order, take, take_more, Contains-append_left, Contains-push, Contains-push_cases, get_or_default, get_or_append_left, get_or-append_seam, common_steps}
+use Rattle.fixed_worth.proofs.Common.{◌≡◌, ◌≢◌, ◌⊎◌, ℕ, ◌<◌, ℤ, ◌-ℤ◌, ◌+◌, List, [], ◌∷◌, length, get_or, Contains, All}
+use Rattle.fixed_worth.proofs.Common.{All-contains, refl, Bool, sym, ap, subst, ◌∙◌, arith, inl, inr, ints, cases_order}
+use Rattle.fixed_worth.proofs.Common.{take, take_more, Contains-push_cases, get_or_default}
 use Rattle.std.specs.Global.{Vec}
 use Rattle.blocks_file.specs.declared.place.Place.{Place}
 use Rattle.blocks_file.specs.Denotes.{BlocksView}
-use Rattle.slope.specs.Prelude.{Offset, AreApartBelow, place_of, upward, offset_between, IsOwnPair, IsSelected, LeadsOver, listed_at, offset_at, own_by, owns, rest_after, IsFirstStep, AreFirstSteps, AreStepsTo, AreStepsOfEach, AreStepsOfRegions, SurroundingsView, ArePlacesOf, StandsAtOffset, StandsNone, LiesBetween, LiesAtSome, LiesAtNone}
-use Rattle.slope.specs.declared.selection.Selection.{Selection}
-use Rattle.slope.specs.declared.selection.Selection.TheVariants.{Every, Reduced}
-use Rattle.slope.specs.declared.up.Up.{Up}
-use Rattle.slope.specs.declared.up.Up.TheVariants.{PlusZ, MinusZ}
+use Rattle.slope_offsets.specs.Prelude.{Offset, listed_at, offset_at, rest_after, AreFirstSteps, AreStepsTo}
+use Rattle.slope_offsets.specs.Prelude.{AreStepsOfEach, AreStepsOfRegions}
+use Rattle.slope.specs.Prelude.{AreApartBelow, block_place, upward, offset_between, IsOwnPair, IsSelected, LeadsOver}
+use Rattle.slope.specs.Prelude.{own_by, owns, SurroundingsView, ArePlacesOf, StandsAtOffset, StandsNone, StandsBetween}
+use Rattle.slope.specs.Prelude.{LiesAtSome, LiesAtNone}
+use Rattle.slope_offsets.specs.declared.selection.Selection.{Selection}
+use Rattle.slope_offsets.specs.declared.selection.Selection.TheVariants.{Every, Reduced}
+use Rattle.slope_offsets.specs.declared.up.Up.{Up}
+use Rattle.slope_offsets.specs.declared.up.Up.TheVariants.{PlusZ, MinusZ}
 use Rattle.slope.proofs.PairSteps.{slope_of, slope_at}
 use Rattle.slope.proofs.Finding.{one_place}
 
@@ -16,71 +22,130 @@ rest_of_height PlusZ x y z = omega (arith, ints)
 rest_of_height MinusZ x y z = omega (arith, ints)
 
 -- from the place between the rest of the offset leads on
-pub rest_between : (up : Up) (from over to : Place) → offset_between up over to ≡ rest_after (offset_between up from over) (offset_between up from to)
+pub rest_between : (up : Up) (from over to : Place)
+    → offset_between up over to ≡ rest_after (offset_between up from over) (offset_between up from to)
 rest_between up from over to =
     let a : to.x -ℤ over.x ≡ (to.x -ℤ from.x) -ℤ (over.x -ℤ from.x) = omega (arith, ints) in
     let b : to.y -ℤ over.y ≡ (to.y -ℤ from.y) -ℤ (over.y -ℤ from.y) = omega (arith, ints) in
     let d = rest_of_height up from.z over.z to.z in
     λ i. (a i, b i, d i)
 
-module _ (v : SurroundingsView) (b : ℕ) (known : b < v.model.blocks) (from : v.from ≡ place_of v.model b) (mine : v.offsets ≡ owns v b) where
+module _ (v : SurroundingsView) (b : ℕ) (known : b < v.model.blocks) (from : v.from ≡ block_place v.model b)
+    (mine : v.offsets ≡ owns v b) where
   -- from b
-  pub at_from : (a q : ℕ) → StandsAtOffset v a q → offset_between v.up (place_of v.model b) (place_of v.model q) ≡ offset_at v.offsets a
-  at_from a q s = ap (λ (f : Place). offset_between v.up f (place_of v.model q)) (sym from) ∙ s.there
+  pub at_from : (a q : ℕ) → StandsAtOffset v a q → offset_between v.up (block_place v.model b) (block_place v.model q)
+      ≡ offset_at v.offsets a
+  at_from a q s = ap (λ (f : Place). offset_between v.up f (block_place v.model q)) (sym from) ∙ s.there
 
   -- from the block at offset a the rest leads on
-  onward_of : (i p a q : ℕ) → StandsAtOffset v i p → offset_between v.up (place_of v.model b) (place_of v.model q) ≡ offset_at v.offsets a → offset_between v.up (place_of v.model q) (place_of v.model p) ≡ rest_after (offset_at v.offsets a) (offset_at v.offsets i)
+  onward_of : (i p a q : ℕ) → StandsAtOffset v i p
+      → offset_between v.up (block_place v.model b) (block_place v.model q) ≡ offset_at v.offsets a
+      → offset_between v.up (block_place v.model q) (block_place v.model p) ≡ rest_after (offset_at v.offsets a)
+      (offset_at v.offsets i)
   onward_of i p a q stands first =
-      rest_between v.up (place_of v.model b) (place_of v.model q) (place_of v.model p)
-      ∙ ap (λ o. rest_after o (offset_between v.up (place_of v.model b) (place_of v.model p))) first
+      rest_between v.up (block_place v.model b) (block_place v.model q) (block_place v.model p)
+      ∙ ap (λ o. rest_after o (offset_between v.up (block_place v.model b) (block_place v.model p))) first
       ∙ ap (rest_after (offset_at v.offsets a)) (at_from i p stands)
 
   module _ (i p : ℕ) (stands : StandsAtOffset v i p) (steps : List ℕ) where
     -- a block that lies at a step lies between
-    pub leads_over : All (λ a. a < length v.offsets) steps → LiesAtSome v i steps → LeadsOver v.model (owns v) v.up (b, p)
+    pub leads_over : All (λ a. a < length v.offsets) steps → LiesAtSome v i steps
+        → LeadsOver v.model (owns v) v.up (b, p)
     leads_over few s =
         let there = s.lies.stands in
         let first = at_from s.step s.block there in
         let inside : s.step < length v.offsets = All-contains (λ a. a < length v.offsets) steps s.step few s.among in
-        let at : Contains v.offsets (offset_between v.up (place_of v.model b) (place_of v.model s.block)) = subst (Contains v.offsets) (sym first) (s.step, inside, get_or_default v.offsets s.step _ _ inside) in
+        let at : Contains v.offsets (offset_between v.up (block_place v.model b) (block_place v.model s.block)) =
+        subst (Contains v.offsets) (sym first) (s.step, inside, get_or_default v.offsets s.step _ _ inside) in
         record {
           over = s.block;
-          first = record { bottom = known; top = there.known; offset = subst (λ xs. Contains xs (offset_between v.up (place_of v.model b) (place_of v.model s.block))) mine at };
-          second = record { bottom = there.known; top = stands.known; offset = subst (Contains (owns v s.block)) (sym (onward_of i p s.step s.block stands first)) s.lies.onward };
+          first = record {
+            bottom = known;
+            top = there.known;
+            offset = subst
+                (λ xs. Contains xs (offset_between v.up (block_place v.model b) (block_place v.model s.block))) mine at;
+          };
+          second = record {
+            bottom = there.known;
+            top = stands.known;
+            offset = subst (Contains (owns v s.block))
+                (sym (onward_of i p s.step s.block stands first)) s.lies.onward;
+          };
         }
 
     -- where none lies at any of the first steps, none lies between
-    pub leads_over_none : (all : List Offset) → AreFirstSteps v.offsets all (offset_at v.offsets i) (length v.offsets) steps → ((q : ℕ) (o : Offset) → q < v.model.blocks → Contains (owns v q) o → Contains all o) → LiesAtNone v i steps → LeadsOver v.model (owns v) v.up (b, p) → ⊥
+    pub leads_over_none : (all : List Offset) → AreFirstSteps v.offsets all (offset_at v.offsets i) (length v.offsets)
+        steps → ((q : ℕ) (o : Offset) → q < v.model.blocks → Contains (owns v q) o → Contains all o)
+        → LiesAtNone v i steps → LeadsOver v.model (owns v) v.up (b, p) → ⊥
     leads_over_none all of holds none h =
-        let o : Contains v.offsets (offset_between v.up (place_of v.model b) (place_of v.model h.over)) = subst (λ xs. Contains xs (offset_between v.up (place_of v.model b) (place_of v.model h.over))) (sym mine) h.first.offset in
-        let at : offset_between v.up (place_of v.model b) (place_of v.model h.over) ≡ offset_at v.offsets o.0 = sym o.2 ∙ get_or_default v.offsets o.0 _ _ o.1 in
+        let o : Contains v.offsets (offset_between v.up (block_place v.model b) (block_place v.model h.over)) = subst
+        (λ xs. Contains xs (offset_between v.up (block_place v.model b) (block_place v.model h.over)))
+        (sym mine) h.first.offset in
+        let at : offset_between v.up (block_place v.model b) (block_place v.model h.over) ≡ offset_at v.offsets o.0 =
+        sym o.2 ∙ get_or_default v.offsets o.0 _ _ o.1 in
         let onward = subst (Contains (owns v h.over)) (onward_of i p o.0 h.over stands at) h.second.offset in
-        let lies : LiesBetween v i o.0 h.over = record { stands = record { known = h.first.top; there = ap (λ (f : Place). offset_between v.up f (place_of v.model h.over)) from ∙ at }; onward = onward } in
+        let lies : StandsBetween v i o.0 h.over = record {
+          stands = record {
+            known = h.first.top;
+            there = ap
+                (λ (f : Place). offset_between v.up f (block_place v.model h.over)) from ∙ at;
+          };
+          onward = onward;
+        } in
         none o.0 h.over (of.held o.0 o.1 (record { known = o.1; onward = holds h.over _ h.first.top onward })) lies
 
 -- surroundings by their parts, where a block is looked from
-module _ (v : SurroundingsView) (m : BlocksView) (by_column : Bool) (ps : List (List Offset)) (up : Up) (same : ArePlacesOf v m by_column ps up) (b : ℕ) (known : b < m.blocks) (from : v.from ≡ place_of m b) (mine : v.offsets ≡ own_by by_column ps m b) where
+module _ (v : SurroundingsView) (m : BlocksView) (by_column : Bool) (ps : List (List Offset)) (up : Up)
+    (same : ArePlacesOf v m by_column ps up) (b : ℕ) (known : b < m.blocks) (from : v.from ≡ block_place m b)
+    (mine : v.offsets ≡ own_by by_column ps m b) where
   w : SurroundingsView
-  w = record { model = m; patterns = ps; by_column = by_column; offsets = own_by by_column ps m b; up = up; from = v.from }
+  w = record {
+    model = m;
+    patterns = ps;
+    by_column = by_column;
+    offsets = own_by by_column ps m b;
+    up = up;
+    from =
+        v.from;
+  }
 
   w_is : v ≡ w
   unfolding w
-  w_is = λ j. record { model = same.of_model j; patterns = same.of_patterns j; by_column = same.of_column j; offsets = mine j; up = same.of_up j; from = v.from }
+  w_is = λ j. record {
+    model = same.of_model j;
+    patterns = same.of_patterns j;
+    by_column = same.of_column j;
+    offsets =
+        mine j;
+    up = same.of_up j;
+    from = v.from;
+  }
 
   module _ (i : ℕ) (l : i < length (own_by by_column ps m b)) where
     -- a block that stands at an offset makes a pair
-    pair_at : (p : ℕ) → StandsAtOffset w i p → IsOwnPair m (own_by by_column ps m) up (b, p) × (offset_between up (place_of m b) (place_of m p) ≡ offset_at (own_by by_column ps m b) i)
+    pair_at : (p : ℕ) → StandsAtOffset w i p → IsOwnPair m (own_by by_column ps m) up (b, p)
+        × (offset_between up (block_place m b) (block_place m p) ≡ offset_at (own_by by_column ps m b) i)
     unfolding w
-    pair_at p s = let at = at_from w b known from refl i p s in (slope_at m (own_by by_column ps m) up b p i _ l known s.known at, at)
+    pair_at p s = let at = at_from w b known from refl i p s in
+        (slope_at m (own_by by_column ps m) up b p i _ l known s.known at, at)
 
     -- one at an offset stands there
-    stands_at : (p : ℕ) → p < m.blocks → offset_between up (place_of m b) (place_of m p) ≡ offset_at (own_by by_column ps m b) i → StandsAtOffset w i p
+    stands_at : (p : ℕ) → p < m.blocks → offset_between up (block_place m b) (block_place m p) ≡ offset_at
+        (own_by by_column ps m b) i → StandsAtOffset w i p
     unfolding w
-    stands_at p top at = record { known = top; there = ap (λ (f : Place). offset_between up f (place_of m p)) from ∙ at }
+    stands_at p top at = record {
+      known = top;
+      there = ap (λ (f : Place). offset_between up f (block_place m p)) from
+          ∙ at;
+    }
 
-    module _ (all : List Offset) (holds : (q : ℕ) (o : Offset) → q < m.blocks → Contains (own_by by_column ps m q) o → Contains all o) (steps : List ℕ) where
+    module _ (all : List Offset) (holds : (q : ℕ) (o : Offset) → q < m.blocks → Contains (own_by by_column ps m q) o
+        → Contains all o) (steps : List ℕ) where
       -- a block that stands there, where none lies between, makes a selected pair
-      pub selected_by : (s : Selection) → AreStepsTo s (own_by by_column ps m b) all (offset_at (own_by by_column ps m b) i) steps → (p : ℕ) → StandsAtOffset v i p × LiesAtNone v i steps → IsSelected s m (own_by by_column ps m) up (b, p) × (offset_between up (place_of m b) (place_of m p) ≡ offset_at (own_by by_column ps m b) i)
+      pub selected_by : (s : Selection)
+          → AreStepsTo s (own_by by_column ps m b) all (offset_at (own_by by_column ps m b) i) steps → (p : ℕ)
+          → StandsAtOffset v i p × LiesAtNone v i steps → IsSelected s m (own_by by_column ps m) up (b, p)
+          × (offset_between up (block_place m b) (block_place m p) ≡ offset_at (own_by by_column ps m b) i)
       unfolding w
       selected_by Every of p h = pair_at p (subst (λ (x : SurroundingsView). StandsAtOffset x i p) w_is h.0)
       selected_by Reduced of p h =
@@ -89,11 +154,17 @@ module _ (v : SurroundingsView) (m : BlocksView) (by_column : Bool) (ps : List (
           let none = subst (λ (x : SurroundingsView). LiesAtNone x i steps) w_is h.1 in
           ((pair.0, leads_over_none w b known from refl i p stands steps all of holds none), pair.1)
 
-      passed_none : (s : Selection) → StandsNone v i → (p : ℕ) → IsSelected s m (own_by by_column ps m) up (b, p) → offset_between up (place_of m b) (place_of m p) ≢ offset_at (own_by by_column ps m b) i
-      passed_none s none p selected at = subst (λ (x : SurroundingsView). StandsNone x i) w_is none p (stands_at p (slope_of s m (own_by by_column ps m) up (b, p) selected).top at)
+      passed_none : (s : Selection) → StandsNone v i → (p : ℕ) → IsSelected s m (own_by by_column ps m) up (b, p)
+          → offset_between up (block_place m b) (block_place m p) ≢ offset_at (own_by by_column ps m b) i
+      passed_none s none p selected at = subst (λ (x : SurroundingsView). StandsNone x i) w_is none p
+          (stands_at p (slope_of s m (own_by by_column ps m) up (b, p) selected).top at)
 
       -- where one lies between, or none stands there, no pair is selected
-      pub passed_by : (s : Selection) → AreStepsTo s (own_by by_column ps m b) all (offset_at (own_by by_column ps m b) i) steps → All (λ a. a < length (own_by by_column ps m b)) steps → LiesAtSome v i steps ⊎ StandsNone v i → (p : ℕ) → IsSelected s m (own_by by_column ps m) up (b, p) → offset_between up (place_of m b) (place_of m p) ≢ offset_at (own_by by_column ps m b) i
+      pub passed_by : (s : Selection)
+          → AreStepsTo s (own_by by_column ps m b) all (offset_at (own_by by_column ps m b) i) steps
+          → All (λ a. a < length (own_by by_column ps m b)) steps → LiesAtSome v i steps ⊎ StandsNone v i → (p : ℕ)
+          → IsSelected s m (own_by by_column ps m) up (b, p)
+          → offset_between up (block_place m b) (block_place m p) ≢ offset_at (own_by by_column ps m b) i
       unfolding w
       passed_by Every of few (inl some) p selected at = absurd (omega (arith, ap length of, some.among.1))
       passed_by Reduced of few (inl some) p selected at =
@@ -102,70 +173,13 @@ module _ (v : SurroundingsView) (m : BlocksView) (by_column : Bool) (ps : List (
       passed_by s of few (inr none) p selected at = passed_none s none p selected at
 
 -- the steps are offsets of the pattern
-pub steps_known : (s : Selection) (os all : List Offset) (whole : Offset) (steps : List ℕ) → AreStepsTo s os all whole steps → All (λ a. a < length os) steps
+pub steps_known : (s : Selection) (os all : List Offset) (whole : Offset) (steps : List ℕ)
+    → AreStepsTo s os all whole steps → All (λ a. a < length os) steps
 steps_known Every os all whole steps of k d l = absurd (omega (arith, ap length of, l))
-steps_known Reduced os all whole steps of k d l = (of.only (get_or steps k d) (k, l, get_or_default steps k _ d l)).known
+steps_known Reduced os all whole steps of k d l =
+    (of.only (get_or steps k d) (k, l, get_or_default steps k _ d l)).known
 
 -- ---- gathering the first steps
-
--- none among no offsets
-pub no_steps : (os all : List Offset) (whole : Offset) (steps : List ℕ) → steps ≡ [] → AreFirstSteps os all whole 0 steps
-no_steps os all whole steps e = grind (arith, common_steps)
-
-module _ (os all : List Offset) (whole : Offset) (k : ℕ) (steps : List ℕ) (h : AreFirstSteps os all whole k steps) where
-  -- offset k is one
-  pub step_more : (d : Offset) → k < length os → Contains all (rest_after (get_or os k d) whole) → AreFirstSteps os all whole (k + 1) (steps ++ k ∷ [])
-  step_more d l onward = record {
-    held = λ a b f. elim (cases_lt a k) [
-      | inl below ↦ Contains-append_left steps (k ∷ []) a (h.held a below f)
-      | inr least ↦ let e : k ≡ a = omega (arith, b, least) in subst (Contains (steps ++ k ∷ [])) e (Contains-push steps k)
-    ];
-    only = λ a c. elim (Contains-push_cases steps k a c) [
-      | inl before ↦ h.only a before
-      | inr e ↦ subst (IsFirstStep os all whole) e (record { known = l; onward = subst (λ o. Contains all (rest_after o whole)) (get_or_default os k d _ l) onward })
-    ];
-  }
-
-  -- offset k is none
-  pub step_passed : (d : Offset) → k < length os → (Contains all (rest_after (get_or os k d) whole) → ⊥) → AreFirstSteps os all whole (k + 1) steps
-  step_passed d l never = record {
-    held = λ a b f. elim (cases_lt a k) [
-      | inl below ↦ h.held a below f
-      | inr least ↦
-          let e : a ≡ k = omega (arith, b, least) in
-          let g = subst (IsFirstStep os all whole) e f in
-          absurd (never (subst (λ o. Contains all (rest_after o whole)) (get_or_default os k _ d l) g.onward))
-    ];
-    only = h.only;
-  }
-
--- the steps to one offset more
-pub each_more : (s : Selection) (os all : List Offset) (k : ℕ) (steps : List (Vec ℕ)) (one : Vec ℕ) → AreStepsOfEach s os all k steps → AreStepsTo s os all (offset_at os k) one.items → AreStepsOfEach s os all (k + 1) (steps ++ one ∷ [])
-each_more s os all k steps one h f = record {
-  as_many = length-append steps (one ∷ []) ∙ ap (λ n. n + 1) h.as_many;
-  each = λ i d l. elim (cases_lt i k) [
-    | inl below ↦ subst (λ (v : Vec ℕ). AreStepsTo s os all (offset_at os i) v.items) (sym (get_or_append_left steps (one ∷ []) d i (omega (arith, below, h.as_many)))) (h.each i d below)
-    | inr least ↦
-        let e : i ≡ length steps = omega (arith, l, least, h.as_many) in
-        let at : get_or (steps ++ one ∷ []) i d ≡ one = ap (λ j. get_or (steps ++ one ∷ []) j d) e ∙ get_or-append_seam steps one [] d in
-        let same : k ≡ i = omega (arith, l, least) in
-        subst (λ (v : Vec ℕ). AreStepsTo s os all (offset_at os i) v.items) (sym at) (subst (λ j. AreStepsTo s os all (offset_at os j) one.items) same f)
-  ];
-}
-
--- those of one pattern more
-pub region_more : (s : Selection) (ps : List (List Offset)) (all : List Offset) (k : ℕ) (steps : List (Vec (Vec ℕ))) (one : Vec (Vec ℕ)) → AreStepsOfRegions s ps all k steps → AreStepsOfEach s (listed_at ps k) all (length (listed_at ps k)) one.items → AreStepsOfRegions s ps all (k + 1) (steps ++ one ∷ [])
-region_more s ps all k steps one h f = record {
-  as_many = length-append steps (one ∷ []) ∙ ap (λ n. n + 1) h.as_many;
-  each = λ i d l. elim (cases_lt i k) [
-    | inl below ↦ subst (λ (v : Vec (Vec ℕ)). AreStepsOfEach s (listed_at ps i) all (length (listed_at ps i)) v.items) (sym (get_or_append_left steps (one ∷ []) d i (omega (arith, below, h.as_many)))) (h.each i d below)
-    | inr least ↦
-        let e : i ≡ length steps = omega (arith, l, least, h.as_many) in
-        let at : get_or (steps ++ one ∷ []) i d ≡ one = ap (λ j. get_or (steps ++ one ∷ []) j d) e ∙ get_or-append_seam steps one [] d in
-        let same : k ≡ i = omega (arith, l, least) in
-        subst (λ (v : Vec (Vec ℕ)). AreStepsOfEach s (listed_at ps i) all (length (listed_at ps i)) v.items) (sym at) (subst (λ j. AreStepsOfEach s (listed_at ps j) all (length (listed_at ps j)) one.items) same f)
-  ];
-}
 
 -- a list with a place isn't empty
 some_of : {X : Type 0} (xs : List X) (i : ℕ) → i < length xs → X
@@ -173,34 +187,48 @@ some_of [] i l = absurd (omega (arith, l))
 some_of (x ∷ xs) i l = x
 
 -- the steps of the region of a block
-pub steps_of_block : (s : Selection) (ps : List (List Offset)) (all : List Offset) (each : List (Vec (Vec ℕ))) (region : ℕ) (os : List Offset) (steps : List (Vec ℕ)) → os ≡ listed_at ps region → region < length ps → AreStepsOfRegions s ps all (length ps) each → ((d : Vec (Vec ℕ)) → steps ≡ (get_or each region d).items) → AreStepsOfEach s os all (length os) steps
+pub steps_of_block : (s : Selection) (ps : List (List Offset)) (all : List Offset) (each : List (Vec (Vec ℕ)))
+    (region : ℕ) (os : List Offset) (steps : List (Vec ℕ)) → os ≡ listed_at ps region → region < length ps
+    → AreStepsOfRegions s ps all (length ps) each → ((d : Vec (Vec ℕ)) → steps ≡ (get_or each region d).items)
+    → AreStepsOfEach s os all (length os) steps
 steps_of_block s ps all each region os steps e l h is =
     let none = some_of each region (omega (arith, l, h.as_many)) in
-    subst (λ xs. AreStepsOfEach s xs all (length xs) steps) (sym e) (subst (AreStepsOfEach s (listed_at ps region) all (length (listed_at ps region))) (sym (is none)) (h.each region none l))
+    subst (λ xs. AreStepsOfEach s xs all (length xs) steps) (sym e)
+    (subst (AreStepsOfEach s (listed_at ps region) all (length (listed_at ps region))) (sym (is none))
+    (h.each region none l))
 
 -- the steps to one offset
-pub step_at : (s : Selection) (os all : List Offset) (steps : List (Vec ℕ)) (i : ℕ) (own : List ℕ) → AreStepsOfEach s os all (length os) steps → i < length os → ((d : Vec ℕ) → own ≡ (get_or steps i d).items) → AreStepsTo s os all (offset_at os i) own
+pub step_at : (s : Selection) (os all : List Offset) (steps : List (Vec ℕ)) (i : ℕ) (own : List ℕ)
+    → AreStepsOfEach s os all (length os) steps → i < length os → ((d : Vec ℕ) → own ≡ (get_or steps i d).items)
+    → AreStepsTo s os all (offset_at os i) own
 step_at s os all steps i own h l is =
     let none = some_of steps i (omega (arith, l, h.as_many)) in
     subst (AreStepsTo s os all (offset_at os i)) (sym (is none)) (h.each i none l)
 
 -- where nothing lies between at the first steps, nor at the next one
-pub none_more : (v : SurroundingsView) (i : ℕ) (steps : List ℕ) (k d : ℕ) → k < length steps → LiesAtNone v i (take k steps) → ((q : ℕ) → LiesBetween v i (get_or steps k d) q → ⊥) → LiesAtNone v i (take (k + 1) steps)
-none_more v i steps k d l none here a q c lies = elim (Contains-push_cases (take k steps) (get_or steps k d) a (subst (λ xs. Contains xs a) (take_more steps k d l) c)) [
-  | inl before ↦ none a q before lies
-  | inr e ↦ here q (subst (λ x. LiesBetween v i x q) (sym e) lies)
-]
+pub none_more : (v : SurroundingsView) (i : ℕ) (steps : List ℕ) (k d : ℕ) → k < length steps
+    → LiesAtNone v i (take k steps) → ((q : ℕ) → StandsBetween v i (get_or steps k d) q → ⊥)
+    → LiesAtNone v i (take (k + 1) steps)
+none_more v i steps k d l none here a q c lies = elim
+    (Contains-push_cases (take k steps) (get_or steps k d) a (subst (λ xs. Contains xs a) (take_more steps k d l) c)) [
+      | inl before ↦ none a q before lies
+      | inr e ↦ here q (subst (λ x. StandsBetween v i x q) (sym e) lies)
+    ]
 
 -- where no block stands none lies between
-pub none_lies : (v : SurroundingsView) (i a : ℕ) → StandsNone v a → (q : ℕ) → LiesBetween v i a q → ⊥
+pub none_lies : (v : SurroundingsView) (i a : ℕ) → StandsNone v a → (q : ℕ) → StandsBetween v i a q → ⊥
 none_lies v i a none q lies = none q lies.stands
 
 -- one block stands at an offset: where that one doesn't lead on, none lies between
-pub other_lies : (v : SurroundingsView) → AreApartBelow v.model v.model.blocks → (i a p : ℕ) → StandsAtOffset v a p → (Contains (owns v p) (rest_after (offset_at v.offsets a) (offset_at v.offsets i)) → ⊥) → (q : ℕ) → LiesBetween v i a q → ⊥
+pub other_lies : (v : SurroundingsView) → AreApartBelow v.model v.model.blocks → (i a p : ℕ) → StandsAtOffset v a p
+    → (Contains (owns v p) (rest_after (offset_at v.offsets a) (offset_at v.offsets i)) → ⊥) → (q : ℕ)
+    → StandsBetween v i a q → ⊥
 other_lies v apart i a p stands never q lies =
-    let same = one_place v.up v.from (place_of v.model p) (place_of v.model q) (stands.there ∙ sym lies.stands.there) in
+    let same = one_place v.up v.from (block_place v.model p) (block_place v.model q)
+    (stands.there ∙ sym lies.stands.there) in
     elim (cases_order p q) [
-      | inl e ↦ never (subst (λ x. Contains (owns v x) (rest_after (offset_at v.offsets a) (offset_at v.offsets i))) (sym e) lies.onward)
+      | inl e ↦ never (subst (λ x. Contains (owns v x) (rest_after (offset_at v.offsets a) (offset_at v.offsets i)))
+          (sym e) lies.onward)
       | inr w ↦ elim w [
         | inl below ↦ apart p q below lies.stands.known same
         | inr above ↦ apart q p above stands.known (sym same)

@@ -1,67 +1,26 @@
 -- What only the functions of this crate say to one another: lists as they are gathered, a cone level by level, the
 -- index of places, and the pairs block by block.
-use Rattle.std.specs.Prelude.{◌≡◌, ◌≢◌, ℕ, ◌<◌, ◌≤◌, ◌+◌, ◌-◌, ◌*◌, ◌/◌, Bool, true, false, All, ℤ, pos, ◌-ℤ◌, ◌≤ℤ◌, ◌<ℤ◌, ◌⊎◌, List, [], length, take, AllPairs, Contains, Option, Some, None, Result, Ok, Err, FitsSigned, slice_index_or}
-use Rattle.std.specs.Global.{Vec}
+use Rattle.std.specs.Prelude.{◌≡◌, ℕ, ◌<◌, ◌≤◌, ◌+◌, ◌-◌, Bool, true, false, pos, ◌⊎◌, List, [], length, take, AllPairs}
+use Rattle.std.specs.Prelude.{Contains, Option, Some, None, Result, Ok, Err, FitsSigned, slice_index_or}
 use Rattle.std.specs.Int.{w32}
 use Rattle.prec_file.specs.declared.limits.TheConstants.{MOST_PAIRS}
-use Rattle.slope.specs.declared.pattern.TheConstants.{MOST_OFFSETS, MOST_CONE_NUMBER}
 use Rattle.blocks_file.specs.declared.place.Place.{Place}
 use Rattle.blocks_file.specs.Denotes.{BlocksView}
-use Rattle.slope.specs.Lists.{AreMoreThan}
+use Rattle.slope_offsets.specs.Prelude.{AreMoreThan, Offset, OffsetBefore, AreOffsetsRising, IsPattern, listed_at}
+use Rattle.slope_offsets.specs.Prelude.{Collects, offset_at, rest_after}
 use Rattle.prec_file.specs.Rests.{RowsView}
-use Rattle.slope.specs.Offsets.{Offset, OffsetBefore, AreOffsetsRising, IsPattern}
-use Rattle.slope.specs.Patterns.{IsNear}
-use Rattle.slope.specs.Slopes.{place_of, IsSelected, IsFirstRepeat, offset_between, region_of, offsets_in, IsRegion, listed_at, AreRegions, AreAllUpward, HaveAllFew, IsFirstOutside, IsFirstNotUpward, IsFirstWide}
-use Rattle.slope.specs.declared.selection.Selection.{Selection}
-use Rattle.slope.specs.declared.selection.Selection.TheVariants.{Every, Reduced}
+use Rattle.slope.specs.Slopes.{block_place, IsSelected, IsFirstRepeat, offset_between, region_of, region_offsets}
+use Rattle.slope.specs.Slopes.{IsListedRegion, AreListedRegions, AreAllUpward, HaveAllFew, IsFirstOutside}
+use Rattle.slope.specs.Slopes.{IsFirstNotUpward, IsFirstWide}
+use Rattle.slope_offsets.specs.declared.selection.Selection.{Selection}
 use Rattle.slope.specs.declared.sight.Sight.{Sight}
 use Rattle.slope.specs.declared.sight.Sight.TheVariants as sight
-use Rattle.slope.specs.declared.pattern_fault.PatternFault.{PatternFault}
-use Rattle.slope.specs.declared.pattern_fault.PatternFault.TheVariants as pattern
 use Rattle.slope.specs.declared.slope_fault.SlopeFault.{SlopeFault}
 use Rattle.slope.specs.declared.slope_fault.SlopeFault.TheVariants as slope
 use Rattle.slope.specs.declared.region_fault.RegionFault.{RegionFault}
 use Rattle.slope.specs.declared.region_fault.RegionFault.TheVariants as region
 use Rattle.slope.specs.declared.region_slopes.TheConstants.{MOST_REGIONS}
-use Rattle.slope.specs.declared.up.Up.{Up}
-
--- What has the property, each once.
-pub record Collects {X : Type 0} (P : X → Type 0) (xs : List X) : Type 0 where
-  pub apart : AllPairs (λ x y. x ≢ y) xs
-  pub held : (x : X) → P x → Contains xs x
-  pub only : (x : X) → Contains xs x → P x
-
--- The numbers of a level of a cone are small, and reach is the greatest distance there, in whole blocks.
-pub record IsLevel (k reach run rise : ℕ) : Type 0 where
-  pub few_levels : k ≤ MOST_CONE_NUMBER
-  pub small_run : run ≤ MOST_CONE_NUMBER
-  pub some_rise : 1 ≤ rise
-  pub small_rise : rise ≤ MOST_CONE_NUMBER
-  pub furthest : reach ≡ k * run / rise
-
--- What the levels of a cone below this one hold.
-pub record IsBelowLevel (run rise : ℕ) (k : ℤ) (o : Offset) : Type 0 where
-  pub above : pos 1 ≤ℤ o.2
-  pub near : IsNear run rise o
-  pub below : o.2 <ℤ k
-
--- That, and what the level holds whose first number is below x.
-pub record IsBelowRow (run rise : ℕ) (k x : ℤ) (o : Offset) : Type 0 where
-  pub above : pos 1 ≤ℤ o.2
-  pub near : IsNear run rise o
-  pub below : (o.2 <ℤ k) ⊎ ((o.2 ≡ k) × (o.0 <ℤ x))
-
--- That, and what the row at x holds whose second number is below y.
-pub record IsBelowPoint (run rise : ℕ) (k x y : ℤ) (o : Offset) : Type 0 where
-  pub above : pos 1 ≤ℤ o.2
-  pub near : IsNear run rise o
-  pub below : (o.2 <ℤ k) ⊎ ((o.2 ≡ k) × ((o.0 <ℤ x) ⊎ ((o.0 ≡ x) × (o.1 <ℤ y))))
-
--- Why an offset isn't added to others: there are 4,096 already, or fewer and no memory for one more.
-abbrev pub OffsetRefusalStands : List Offset → PatternFault → Type 0
-OffsetRefusalStands offsets (pattern.NotUpward i) = ⊥
-OffsetRefusalStands offsets pattern.TooMany = MOST_OFFSETS ≤ length offsets
-OffsetRefusalStands offsets pattern.NoMemory = length offsets < MOST_OFFSETS
+use Rattle.slope_offsets.specs.declared.up.Up.{Up}
 
 -- The coordinates have 32 bits.
 abbrev pub IsPlace : Place → Type 0
@@ -81,19 +40,19 @@ entry_at entries i = slice_index_or entries i ((pos 0, pos 0, pos 0), 0)
 
 -- The entry of a block.
 abbrev pub entry_of : BlocksView → ℕ → Entry
-entry_of m b = (place_key (place_of m b), b)
+entry_of m b = (place_key (block_place m b), b)
 
 -- The entries of the first c blocks, in their order. The places are read from the model, and fit.
 pub record AreEntries (m : BlocksView) (c : ℕ) (entries : List Entry) : Type 0 where
   pub as_many : length entries ≡ c
   pub each : (b : ℕ) (d : Entry) → b < c → slice_index_or entries b d ≡ entry_of m b
-  pub fits : (b : ℕ) → b < c → IsPlace (place_of m b)
+  pub fits : (b : ℕ) → b < c → IsPlace (block_place m b)
 
 -- The entries of all blocks, in some order.
 pub record AreEntriesOf (m : BlocksView) (entries : List Entry) : Type 0 where
   pub held : (b : ℕ) → b < m.blocks → Contains entries (entry_of m b)
   pub only : (e : Entry) → Contains entries e → (e.1 < m.blocks) × (e ≡ entry_of m e.1)
-  pub fits : (b : ℕ) → b < m.blocks → IsPlace (place_of m b)
+  pub fits : (b : ℕ) → b < m.blocks → IsPlace (block_place m b)
 
 -- By key, and where keys are equal by block.
 abbrev pub BeforeEntry : Entry → Entry → Type 0
@@ -128,15 +87,17 @@ IsEarliestRepeat entries = IsEarliestAmong entries (length entries)
 -- Of two repeats the one whose second block is less.
 abbrev pub IsEarlierRepeat : Option (ℕ × ℕ) → ℕ × ℕ → ℕ × ℕ → Type 0
 IsEarlierRepeat None other result = result ≡ other
-IsEarlierRepeat (Some repeat) other result = ((result ≡ repeat) ⊎ (result ≡ other)) × (result.1 ≤ repeat.1) × (result.1 ≤ other.1)
+IsEarlierRepeat (Some repeat) other result = ((result ≡ repeat) ⊎ (result ≡ other)) × (result.1 ≤ repeat.1)
+    × (result.1 ≤ other.1)
 
 -- The keys rise, and each block is found by the key of its place, and nothing else.
 pub record IsIndex (m : BlocksView) (keys : List Offset) (blocks : List ℕ) : Type 0 where
   pub rising : AreOffsetsRising keys
   pub as_many : length blocks ≡ length keys
-  pub stands : (i : ℕ) (d : Offset) (e : ℕ) → i < length keys → (slice_index_or blocks i e < m.blocks) × (place_key (place_of m (slice_index_or blocks i e)) ≡ slice_index_or keys i d)
+  pub stands : (i : ℕ) (d : Offset) (e : ℕ) → i < length keys → (slice_index_or blocks i e < m.blocks)
+      × (place_key (block_place m (slice_index_or blocks i e)) ≡ slice_index_or keys i d)
   pub finds : (b : ℕ) → b < m.blocks → (i : ℕ) × (i < length keys) × ((e : ℕ) → slice_index_or blocks i e ≡ b)
-  pub fits : (b : ℕ) → b < m.blocks → IsPlace (place_of m b)
+  pub fits : (b : ℕ) → b < m.blocks → IsPlace (block_place m b)
 
 -- The list ends at a place, or what stands there is above the key.
 abbrev pub IsEndOrBelow : List Offset → Offset → ℕ → Type 0
@@ -164,11 +125,11 @@ region_by false m b = Some 0
 
 -- The offsets of a block's own region.
 abbrev pub own_by : Bool → List (List Offset) → BlocksView → ℕ → List Offset
-own_by by_column patterns m b = offsets_in patterns (region_by by_column m b)
+own_by by_column patterns m b = region_offsets patterns (region_by by_column m b)
 
 -- Every block has a region, and its offsets make a pattern.
 pub record HaveRegions (by_column : Bool) (patterns : List (List Offset)) (m : BlocksView) : Type 0 where
-  pub each : (b : ℕ) → b < m.blocks → IsRegion patterns (region_by by_column m b)
+  pub each : (b : ℕ) → b < m.blocks → IsListedRegion patterns (region_by by_column m b)
   pub are : (b : ℕ) → b < m.blocks → IsPattern (own_by by_column patterns m b)
 
 -- The patterns have the offsets that are listed for their regions.
@@ -179,17 +140,22 @@ pub record AreOfListed (listed patterns : List (List Offset)) : Type 0 where
   pub only : (r : ℕ) (o : Offset) → Contains (listed_at patterns r) o → Contains (listed_at listed r) o
 
 -- The selected pairs of the blocks below this one.
-pub record IsPairBelow (m : BlocksView) (own : ℕ → List Offset) (up : Up) (selection : Selection) (block : ℕ) (pair : ℕ × ℕ) : Type 0 where
+pub record IsPairBelow (m : BlocksView) (own : ℕ → List Offset) (up : Up) (selection : Selection) (block : ℕ)
+    (pair : ℕ × ℕ) : Type 0 where
   pub selected : IsSelected selection m own up pair
   pub below : pair.0 < block
 
 -- Those, and this block's at the first of its offsets.
-pub record IsPairUpTo (m : BlocksView) (own : ℕ → List Offset) (up : Up) (selection : Selection) (block i : ℕ) (pair : ℕ × ℕ) : Type 0 where
+pub record IsPairUpTo (m : BlocksView) (own : ℕ → List Offset) (up : Up) (selection : Selection) (block i : ℕ)
+    (pair : ℕ × ℕ) : Type 0 where
   pub selected : IsSelected selection m own up pair
-  pub below : (pair.0 < block) ⊎ ((pair.0 ≡ block) × Contains (take i (own block)) (offset_between up (place_of m block) (place_of m pair.1)))
+  pub below : (pair.0 < block)
+      ⊎ ((pair.0 ≡ block) × Contains (take i (own block))
+      (offset_between up (block_place m block) (block_place m pair.1)))
 
 -- The blocks below this one are listed, with their selected pairs.
-pub record AreListedBelow (m : BlocksView) (own : ℕ → List Offset) (up : Up) (selection : Selection) (block : ℕ) (rows : RowsView) : Type 0 where
+pub record AreListedBelow (m : BlocksView) (own : ℕ → List Offset) (up : Up) (selection : Selection) (block : ℕ)
+    (rows : RowsView) : Type 0 where
   pub blocks : rows.blocks ≡ m.blocks
   pub next : rows.next ≡ block
   pub pairs : Collects (IsPairBelow m own up selection block) rows.pairs
@@ -203,9 +169,11 @@ region_fault_of slope.NoMemory = region.NoMemory
 -- The fault of regions or their offsets stands, whatever the places are.
 abbrev pub RegionRefusalStands : List (List Offset) → BlocksView → RegionFault → Type 0
 RegionRefusalStands listed m (region.UnknownRegion b) = IsFirstOutside listed m b
-RegionRefusalStands listed m (region.NotUpward r i) = AreRegions listed m × IsFirstNotUpward listed r i
-RegionRefusalStands listed m (region.TooManyOffsets r) = AreRegions listed m × AreAllUpward listed × IsFirstWide listed r
-RegionRefusalStands listed m region.TooManyRegions = AreRegions listed m × AreAllUpward listed × HaveAllFew listed × (MOST_REGIONS < length listed)
+RegionRefusalStands listed m (region.NotUpward r i) = AreListedRegions listed m × IsFirstNotUpward listed r i
+RegionRefusalStands listed m (region.TooManyOffsets r) = AreListedRegions listed m × AreAllUpward listed
+    × IsFirstWide listed r
+RegionRefusalStands listed m region.TooManyRegions = AreListedRegions listed m × AreAllUpward listed
+    × HaveAllFew listed × (MOST_REGIONS < length listed)
 RegionRefusalStands listed m fault = ⊥
 
 -- The fault of the pairs stands.
@@ -221,49 +189,6 @@ PairRefusalStands count slope.TooMany = MOST_PAIRS ≤ count
 PairRefusalStands count slope.NoMemory = count < MOST_PAIRS
 
 -- ---- offsets in two steps
-
--- Offset i of a list.
-abbrev pub offset_at : List Offset → ℕ → Offset
-offset_at offsets i = slice_index_or offsets i (pos 0, pos 0, pos 0)
-
--- The offset that leads on from the place at a step to that at the whole.
-abbrev pub rest_after : Offset → Offset → Offset
-rest_after step whole = (whole.0 -ℤ step.0, whole.1 -ℤ step.1, whole.2 -ℤ step.2)
-
--- Offset a of the list is a first step: one of all offsets leads on from it to the whole.
-pub record IsFirstStep (offsets all : List Offset) (whole : Offset) (a : ℕ) : Type 0 where
-  pub known : a < length offsets
-  pub onward : Contains all (rest_after (offset_at offsets a) whole)
-
--- The numbers of the first steps among the first k offsets, and nothing else.
-pub record AreFirstSteps (offsets all : List Offset) (whole : Offset) (k : ℕ) (steps : List ℕ) : Type 0 where
-  pub held : (a : ℕ) → a < k → IsFirstStep offsets all whole a → Contains steps a
-  pub only : (a : ℕ) → Contains steps a → IsFirstStep offsets all whole a
-
--- The numbers of the offsets at which a third block may stand that a pair at an offset leads over: none are asked for
--- where every pair is selected, and the first steps to it where the reduced ones are.
-abbrev pub AreStepsTo : Selection → List Offset → List Offset → Offset → List ℕ → Type 0
-AreStepsTo Every offsets all whole steps = steps ≡ []
-AreStepsTo Reduced offsets all whole steps = AreFirstSteps offsets all whole (length offsets) steps
-
--- Such numbers for each of the first k offsets.
-pub record AreStepsOfEach (selection : Selection) (offsets all : List Offset) (k : ℕ) (steps : List (Vec ℕ)) : Type 0 where
-  pub as_many : length steps ≡ k
-  pub each : (i : ℕ) (d : Vec ℕ) → i < k → AreStepsTo selection offsets all (offset_at offsets i) (slice_index_or steps i d).items
-
--- The offsets of the first k patterns are among all.
-abbrev pub HoldsOf : List (List Offset) → ℕ → List Offset → Type 0
-HoldsOf patterns k all = (r : ℕ) (o : Offset) → r < k → Contains (listed_at patterns r) o → Contains all o
-
--- Such numbers for each offset of each of the first k patterns.
-pub record AreStepsOfRegions (selection : Selection) (patterns : List (List Offset)) (all : List Offset) (k : ℕ) (steps : List (Vec (Vec ℕ))) : Type 0 where
-  pub as_many : length steps ≡ k
-  pub each : (r : ℕ) (d : Vec (Vec ℕ)) → r < k → AreStepsOfEach selection (listed_at patterns r) all (length (listed_at patterns r)) (slice_index_or steps r d).items
-
--- Those of every pattern, by offsets that hold all of theirs.
-pub record AreRegionSteps (selection : Selection) (patterns : List (List Offset)) (all : List Offset) (steps : List (Vec (Vec ℕ))) : Type 0 where
-  pub of_all : HoldsOf patterns (length patterns) all
-  pub of_each : AreStepsOfRegions selection patterns all (length patterns) steps
 
 -- ---- what stands around a block
 
@@ -281,7 +206,8 @@ abbrev pub owns : SurroundingsView → ℕ → List Offset
 owns v = own_by v.by_column v.patterns v.model
 
 -- The surroundings are of this model and these patterns.
-pub record ArePlacesOf (v : SurroundingsView) (m : BlocksView) (by_column : Bool) (patterns : List (List Offset)) (up : Up) : Type 0 where
+pub record ArePlacesOf (v : SurroundingsView) (m : BlocksView) (by_column : Bool) (patterns : List (List Offset))
+    (up : Up) : Type 0 where
   pub of_model : v.model ≡ m
   pub of_column : v.by_column ≡ by_column
   pub of_patterns : v.patterns ≡ patterns
@@ -290,7 +216,7 @@ pub record ArePlacesOf (v : SurroundingsView) (m : BlocksView) (by_column : Bool
 -- Block p stands at offset i.
 pub record StandsAtOffset (v : SurroundingsView) (i p : ℕ) : Type 0 where
   pub known : p < v.model.blocks
-  pub there : offset_between v.up v.from (place_of v.model p) ≡ offset_at v.offsets i
+  pub there : offset_between v.up v.from (block_place v.model p) ≡ offset_at v.offsets i
 
 -- No block stands at offset i.
 abbrev pub StandsNone : SurroundingsView → ℕ → Type 0
@@ -311,7 +237,7 @@ pub record AreSeen (v : SurroundingsView) (keys : List Offset) (blocks : List �
   pub each : (i : ℕ) (d : Sight) → i < length v.offsets → IsSight v i (slice_index_or seen i d)
 
 -- Block q stands at offset a, and by its own offsets rests on what stands at offset i.
-pub record LiesBetween (v : SurroundingsView) (i a q : ℕ) : Type 0 where
+pub record StandsBetween (v : SurroundingsView) (i a q : ℕ) : Type 0 where
   pub stands : StandsAtOffset v a q
   pub onward : Contains (owns v q) (rest_after (offset_at v.offsets a) (offset_at v.offsets i))
 
@@ -320,8 +246,8 @@ pub record LiesAtSome (v : SurroundingsView) (i : ℕ) (steps : List ℕ) : Type
   pub step : ℕ
   pub among : Contains steps step
   pub block : ℕ
-  pub lies : LiesBetween v i step block
+  pub lies : StandsBetween v i step block
 
 -- No block at any of these offsets lies between.
 abbrev pub LiesAtNone : SurroundingsView → ℕ → List ℕ → Type 0
-LiesAtNone v i steps = (a q : ℕ) → Contains steps a → LiesBetween v i a q → ⊥
+LiesAtNone v i steps = (a q : ℕ) → Contains steps a → StandsBetween v i a q → ⊥

@@ -1,32 +1,31 @@
 -- Which block rests on which, by a pattern or by the offsets of its own region.
-use Rattle.std.specs.Prelude.{◌≡◌, ℕ, ◌<◌, ◌≤◌, ◌/◌, ◌%◌, ◌==◌, ℤ, pos, negsuc, ◌-ℤ◌, List, [], Contains, ◌≢◌, slice_index_or, length, Bool, IsTrue, cond, ◌&&◌, nat_lt, Option, Some, None, All}
+use Rattle.std.specs.Prelude.{◌≡◌, ℕ, ◌<◌, ◌≤◌, ◌/◌, ◌%◌, ◌==◌, ℤ, pos, negsuc, ◌-ℤ◌, List, [], Contains, ◌≢◌}
+use Rattle.std.specs.Prelude.{slice_index_or, length, Bool, IsTrue, cond, ◌&&◌, nat_lt, Option, Some, None, All}
 use Rattle.std.specs.List.{list_any}
 use Rattle.std.specs.Ordering.{int_eq}
 use Rattle.prec_file.specs.declared.limits.TheConstants.{MOST_PAIRS}
-use Rattle.slope.specs.declared.pattern.TheConstants.{MOST_OFFSETS}
+use Rattle.slope_offsets.specs.declared.pattern.TheConstants.{MOST_OFFSETS}
 use Rattle.slope.specs.declared.region_slopes.TheConstants.{MOST_REGIONS}
 use Rattle.blocks_file.specs.declared.place.Place.{Place}
 use Rattle.blocks_file.specs.Denotes.{BlocksView, origin}
 use Rattle.prec_file.specs.Rests.{RestsView, IsRising, IsFirstNot}
-use Rattle.slope.specs.Lists.{AreMoreThan}
-use Rattle.slope.specs.Offsets.{Offset, IsUpward}
-use Rattle.slope.specs.Patterns.{UpwardAt}
-use Rattle.slope.specs.declared.selection.Selection.{Selection}
-use Rattle.slope.specs.declared.selection.Selection.TheVariants.{Every, Reduced}
-use Rattle.slope.specs.declared.up.Up.{Up}
-use Rattle.slope.specs.declared.up.Up.TheVariants.{PlusZ, MinusZ}
+use Rattle.slope_offsets.specs.Prelude.{AreMoreThan, Offset, IsUpward, UpwardAt, listed_at}
+use Rattle.slope_offsets.specs.declared.selection.Selection.{Selection}
+use Rattle.slope_offsets.specs.declared.selection.Selection.TheVariants.{Every, Reduced}
+use Rattle.slope_offsets.specs.declared.up.Up.{Up}
+use Rattle.slope_offsets.specs.declared.up.Up.TheVariants.{PlusZ, MinusZ}
 use Rattle.slope.specs.declared.slope_fault.SlopeFault.{SlopeFault}
 use Rattle.slope.specs.declared.slope_fault.SlopeFault.TheVariants.{SamePlace, TooMany, NoMemory}
 use Rattle.slope.specs.declared.region_fault.RegionFault.{RegionFault}
 use Rattle.slope.specs.declared.region_fault.RegionFault.TheVariants as region
 
 -- Where a block is.
-abbrev pub place_of : BlocksView → ℕ → Place
-place_of m b = slice_index_or m.places b origin
+abbrev pub block_place : BlocksView → ℕ → Place
+block_place m b = slice_index_or m.places b origin
 
 -- No two blocks below c have one place.
 abbrev pub AreApartBelow : BlocksView → ℕ → Type 0
-AreApartBelow m c = (i j : ℕ) → i < j → j < c → place_of m i ≢ place_of m j
+AreApartBelow m c = (i j : ℕ) → i < j → j < c → block_place m i ≢ block_place m j
 
 -- The set holds with the block of each of these pairs the one that it rests on.
 abbrev pub IsClosedBy : (ℕ × ℕ → Type 0) → (ℕ → Bool) → Type 0
@@ -45,7 +44,7 @@ offset_between up from to = (to.x -ℤ from.x, to.y -ℤ from.y, upward up (to.z
 pub record IsOwnPair (m : BlocksView) (own : ℕ → List Offset) (up : Up) (pair : ℕ × ℕ) : Type 0 where
   pub bottom : pair.0 < m.blocks
   pub top : pair.1 < m.blocks
-  pub offset : Contains (own pair.0) (offset_between up (place_of m pair.0) (place_of m pair.1))
+  pub offset : Contains (own pair.0) (offset_between up (block_place m pair.0) (block_place m pair.1))
 
 -- In the pair (b, p), b rests on a third block, which rests on p.
 pub record LeadsOver (m : BlocksView) (own : ℕ → List Offset) (up : Up) (pair : ℕ × ℕ) : Type 0 where
@@ -59,7 +58,8 @@ IsSelected Every m own up pair = IsOwnPair m own up pair
 IsSelected Reduced m own up pair = IsOwnPair m own up pair × (LeadsOver m own up pair → ⊥)
 
 -- The blocks have places of their own, and the pairs are the selected ones, each once and in order.
-pub record AreOwnSlopes (m : BlocksView) (own : ℕ → List Offset) (up : Up) (selection : Selection) (rests : RestsView) : Type 0 where
+pub record AreOwnSlopes (m : BlocksView) (own : ℕ → List Offset) (up : Up) (selection : Selection)
+    (rests : RestsView) : Type 0 where
   pub apart : AreApartBelow m m.blocks
   pub blocks : rests.blocks ≡ m.blocks
   pub rising : IsRising rests.pairs
@@ -80,23 +80,23 @@ AreSlopes m offsets up selection rests = AreOwnSlopes m (λ b. offsets) up selec
 -- ---- by region
 
 -- A number of millionths as a whole number from 0 on, where it is one.
-abbrev pub whole_of : ℤ → Option ℕ
-whole_of (pos n) = cond (n % 1000000 == 0) (Some (n / 1000000)) None
-whole_of (negsuc n) = None
+abbrev pub whole_millionths : ℤ → Option ℕ
+whole_millionths (pos n) = cond (n % 1000000 == 0) (Some (n / 1000000)) None
+whole_millionths (negsuc n) = None
 
 -- The region of a block, where it has one: the whole number that the first column says, or region 0 where there is no
 -- column.
 abbrev pub region_of : BlocksView → ℕ → Option ℕ
-region_of m b = whole_of (slice_index_or (slice_index_or m.columns 0 []) b (pos 0))
+region_of m b = whole_millionths (slice_index_or (slice_index_or m.columns 0 []) b (pos 0))
 
 -- The offsets of a region, and none where there is no such region.
-abbrev pub offsets_in : List (List Offset) → Option ℕ → List Offset
-offsets_in listed (Some r) = slice_index_or listed r []
-offsets_in listed None = []
+abbrev pub region_offsets : List (List Offset) → Option ℕ → List Offset
+region_offsets listed (Some r) = slice_index_or listed r []
+region_offsets listed None = []
 
 -- The offsets of a block are those of its own region.
 abbrev pub own_offsets : List (List Offset) → BlocksView → ℕ → List Offset
-own_offsets listed m b = offsets_in listed (region_of m b)
+own_offsets listed m b = region_offsets listed (region_of m b)
 
 -- Block b rests on block p by the slopes of regions: p stands from b at an offset of b's own region.
 abbrev pub rests : List (List Offset) → BlocksView → Up → ℕ → ℕ → Type 0
@@ -108,20 +108,17 @@ is_offset o q = int_eq q.0 o.0 && (int_eq q.1 o.1 && int_eq q.2 o.2)
 
 -- Whether b rests on p by slopes of regions: both are blocks, and the offset from b to p is one of b's own region.
 abbrev pub rests_by_slopes : List (List Offset) → BlocksView → Up → ℕ → ℕ → Bool
-rests_by_slopes listed m up b p = (nat_lt b m.blocks && nat_lt p m.blocks) && list_any (is_offset (offset_between up (place_of m b) (place_of m p))) (own_offsets listed m b)
+rests_by_slopes listed m up b p = (nat_lt b m.blocks && nat_lt p m.blocks) && list_any
+    (is_offset (offset_between up (block_place m b) (block_place m p))) (own_offsets listed m b)
 
 -- The number of a region is that of a listed one.
-abbrev pub IsRegion : List (List Offset) → Option ℕ → Type 0
-IsRegion listed (Some r) = r < length listed
-IsRegion listed None = ⊥
+abbrev pub IsListedRegion : List (List Offset) → Option ℕ → Type 0
+IsListedRegion listed (Some r) = r < length listed
+IsListedRegion listed None = ⊥
 
 -- Every block is of a listed region.
-abbrev pub AreRegions : List (List Offset) → BlocksView → Type 0
-AreRegions listed m = (b : ℕ) → b < m.blocks → IsRegion listed (region_of m b)
-
--- The offsets of region r of a list.
-abbrev pub listed_at : List (List Offset) → ℕ → List Offset
-listed_at listed r = slice_index_or listed r []
+abbrev pub AreListedRegions : List (List Offset) → BlocksView → Type 0
+AreListedRegions listed m = (b : ℕ) → b < m.blocks → IsListedRegion listed (region_of m b)
 
 -- Every offset of a region leads up.
 abbrev pub IsAllUpward : List (List Offset) → ℕ → Type 0
@@ -155,39 +152,45 @@ pub record IsFirstWide (listed : List (List Offset)) (r : ℕ) : Type 0 where
 pub record IsFirstRepeat (m : BlocksView) (b c : ℕ) : Type 0 where
   pub earlier : b < c
   pub known : c < m.blocks
-  pub same : place_of m b ≡ place_of m c
+  pub same : block_place m b ≡ block_place m c
   pub first : AreApartBelow m c
 
 -- The fault stands, and none that comes before it.
 abbrev pub SlopeFaultStands : BlocksView → List Offset → Up → Selection → SlopeFault → Type 0
 SlopeFaultStands m offsets up selection (SamePlace b c) = IsFirstRepeat m b c
-SlopeFaultStands m offsets up selection TooMany = AreApartBelow m m.blocks × AreMoreThan MOST_PAIRS (IsSelected selection m (λ b. offsets) up)
+SlopeFaultStands m offsets up selection TooMany = AreApartBelow m m.blocks
+    × AreMoreThan MOST_PAIRS (IsSelected selection m (λ b. offsets) up)
 SlopeFaultStands m offsets up selection NoMemory = Unit {0}
 
 -- Block b is the first that is of no listed region.
 pub record IsFirstOutside (listed : List (List Offset)) (m : BlocksView) (b : ℕ) : Type 0 where
   pub known : b < m.blocks
-  pub outside : IsRegion listed (region_of m b) → ⊥
-  pub first : (c : ℕ) → c < b → IsRegion listed (region_of m c)
+  pub outside : IsListedRegion listed (region_of m b) → ⊥
+  pub first : (c : ℕ) → c < b → IsListedRegion listed (region_of m c)
 
 -- What is right where a fault of the offsets stands: the places, and the regions of blocks.
-pub record ArePlaced (listed : List (List Offset)) (m : BlocksView) : Type 0 where
+pub record ArePlacedInRegions (listed : List (List Offset)) (m : BlocksView) : Type 0 where
   pub apart : AreApartBelow m m.blocks
-  pub regions : AreRegions listed m
+  pub regions : AreListedRegions listed m
 
 -- The fault of slopes by region stands, and none that comes before it.
 abbrev pub RegionFaultStands : List (List Offset) → BlocksView → Up → Selection → RegionFault → Type 0
 RegionFaultStands listed m up selection (region.SamePlace b c) = IsFirstRepeat m b c
 RegionFaultStands listed m up selection (region.UnknownRegion b) = AreApartBelow m m.blocks × IsFirstOutside listed m b
-RegionFaultStands listed m up selection (region.NotUpward r i) = ArePlaced listed m × IsFirstNotUpward listed r i
-RegionFaultStands listed m up selection (region.TooManyOffsets r) = ArePlaced listed m × AreAllUpward listed × IsFirstWide listed r
-RegionFaultStands listed m up selection region.TooManyRegions = ArePlaced listed m × AreAllUpward listed × HaveAllFew listed × (MOST_REGIONS < length listed)
-RegionFaultStands listed m up selection region.TooMany = ArePlaced listed m × AreAllUpward listed × HaveAllFew listed × (length listed ≤ MOST_REGIONS) × AreMoreThan MOST_PAIRS (IsSelected selection m (own_offsets listed m) up)
+RegionFaultStands listed m up selection (region.NotUpward r i) = ArePlacedInRegions listed m
+    × IsFirstNotUpward listed r i
+RegionFaultStands listed m up selection (region.TooManyOffsets r) = ArePlacedInRegions listed m × AreAllUpward listed
+    × IsFirstWide listed r
+RegionFaultStands listed m up selection region.TooManyRegions = ArePlacedInRegions listed m × AreAllUpward listed
+    × HaveAllFew listed × (MOST_REGIONS < length listed)
+RegionFaultStands listed m up selection region.TooMany = ArePlacedInRegions listed m × AreAllUpward listed
+    × HaveAllFew listed × (length listed ≤ MOST_REGIONS)
+    × AreMoreThan MOST_PAIRS (IsSelected selection m (own_offsets listed m) up)
 RegionFaultStands listed m up selection region.NoMemory = Unit {0}
 
 -- Nothing is wrong with the slopes of regions among the blocks of a model. How many pairs they give is not asked.
 pub record AreRightSlopes (listed : List (List Offset)) (m : BlocksView) : Type 0 where
-  pub placed : ArePlaced listed m
+  pub placed : ArePlacedInRegions listed m
   pub upward : AreAllUpward listed
   pub few_offsets : HaveAllFew listed
   pub few_regions : length listed ≤ MOST_REGIONS

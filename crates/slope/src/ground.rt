@@ -1,12 +1,13 @@
 //! The regions of a model: the pattern of each, and in which region a block is.
 
 ghost use Rattle.std.specs.Prelude.{◌≡◌, ℕ, ◌<◌, ◌≤◌, ◌∷◌, [], false, Some, IfOk, length};
-ghost use Rattle.slope.specs.Offsets.{IsPattern};
-ghost use Rattle.slope.specs.Slopes.{listed_at, whole_of};
+ghost use Rattle.slope_offsets.specs.Offsets.{IsPattern};
+ghost use Rattle.slope_offsets.specs.Offsets.{listed_at};
+ghost use Rattle.slope.specs.Slopes.{whole_millionths};
 ghost use Rattle.slope.specs.Gathering.{HaveRegions, own_by, region_by};
 
-use crate::Pattern;
 use blocks_file::BlockModel;
+use slope_offsets::Pattern;
 use std::alloc::{AllocError, Global};
 
 // How many millionths make one.
@@ -33,7 +34,7 @@ pub(crate) fn region_at(model: &BlockModel, by_column: bool, block: u32) -> Opti
 
 // A number of millionths as a whole number from 0 on.
 fn whole_in(millionths: i64) -> Option<usize>
-    ensures { result ≡ whole_of millionths }
+    ensures { result ≡ whole_millionths millionths }
 {
     if millionths < 0 {
         return None;

@@ -7,13 +7,13 @@ ghost use Rattle.std.specs.Prelude.{◌↔◌, ℕ, ◌≤◌, Bool, Contains, L
 ghost use Rattle.blocks_file.specs.Denotes.{BlocksView};
 ghost use Rattle.prec_file.specs.Rests.{RestsView, above_of};
 ghost use Rattle.prec_file.specs.Written.{AreNarrow};
-ghost use Rattle.slope.specs.declared.selection.Selection as selected;
-ghost use Rattle.slope.specs.declared.selection.Selection.TheVariants.{Reduced};
-ghost use Rattle.slope.specs.declared.up.Up as declared;
-ghost use Rattle.slope.specs.Offsets.{Offset};
+ghost use Rattle.slope_offsets.specs.declared.selection.Selection as selected;
+ghost use Rattle.slope_offsets.specs.declared.selection.Selection.TheVariants.{Reduced};
+ghost use Rattle.slope_offsets.specs.declared.up.Up as declared;
+ghost use Rattle.slope_offsets.specs.Offsets.{Offset};
 ghost use Rattle.slope.specs.Slopes.{AreAllUpward, AreOwnSlopes, AreSlopes, IsOwnPair, IsSlopePair, IsClosedBy, own_offsets};
 
-use crate::Pattern;
+use slope_offsets::Pattern;
 
 /// A block rests on at most as many blocks as the pattern has offsets, so that the pairs can be written as a file.
 pub fn slopes_are_narrow(pattern: &Pattern)

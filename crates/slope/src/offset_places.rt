@@ -6,8 +6,8 @@ ghost use Rattle.blocks_file.specs.declared.place.Place.{Place as Spot};
 ghost use Rattle.slope.specs.Slopes.{upward, offset_between};
 ghost use Rattle.slope.specs.Gathering.{IsPlace};
 
-use crate::Up;
 use blocks_file::Place;
+use slope_offsets::Up;
 
 // The sum, where it is a coordinate.
 fn moved(from: i32, by: i64) -> Option<i32>

@@ -1,14 +1,14 @@
 //! Finds the block that stands at an offset from a place, by a search of the index that begins at a guess.
 
 ghost use Rattle.std.specs.Prelude.{◌≡◌, ◌≢◌, ℕ, ◌<◌, ◌≤◌, IfSome, IsTrue, MatchOption, length};
-ghost use Rattle.slope.specs.Slopes.{place_of, offset_between};
-ghost use Rattle.slope.specs.Offsets.{AreOffsetsRising};
+ghost use Rattle.slope.specs.Slopes.{block_place, offset_between};
+ghost use Rattle.slope_offsets.specs.Offsets.{AreOffsetsRising};
 ghost use Rattle.slope.specs.Gathering.{IsEndOrBelow, IsStartOrAbove, IsFinding, IsIndex};
 
-use crate::Up;
 use crate::offset_places::place_at;
 use crate::place_index::{PlaceIndex, PlaceKey, key_of};
 use blocks_file::{BlockModel, Place};
+use slope_offsets::Up;
 
 // How many keys are looked at on each side of a guess.
 const NEAR: usize = 8;
@@ -98,8 +98,9 @@ pub(crate) fn block_at(
 ) -> (Option<u32>, usize)
     requires { IsIndex model.now index.now.keys.items index.now.blocks.items }
     ensures { MatchOption result.0
-        ((p : ℕ) → p < model.now.blocks → offset_between up from (place_of model.now p) ≢ offset)
-        (λ p. (p < model.now.blocks) × (offset_between up from (place_of model.now p) ≡ offset)) }
+        ((p : ℕ) → p < model.now.blocks → offset_between up from (block_place model.now p) ≢ offset)
+        (λ p. (p < model.now.blocks)
+        × (offset_between up from (block_place model.now p) ≡ offset)) }
 {
     let Some(place) = place_at(from, offset, up) else {
         return (None, guess);

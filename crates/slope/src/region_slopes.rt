@@ -1,17 +1,17 @@
 //! The predecessors of each block of a model by the offsets of its own region, which are listed region by region.
 
-ghost use Rattle.std.specs.Prelude.{◌≡◌, ℕ, ◌<◌, ◌≤◌, map, true, All, IfOk, MatchOption, MatchResult, IsErrOf, length};
+ghost use Rattle.std.specs.Prelude.{◌≡◌, ◌<◌, ◌≤◌, map, true, IfOk, MatchOption, MatchResult, length};
 ghost use Rattle.prec_file.specs.Written.{AreNarrow};
-ghost use Rattle.slope.specs.Slopes.{AreOwnSlopes, AreRegions, AreAllUpward, GivePairs, HaveAllFew, IsFirstOutside, IsFirstNotUpward, IsFirstWide, RegionFaultStands, own_offsets};
+ghost use Rattle.slope.specs.Slopes.{AreOwnSlopes, AreListedRegions, AreAllUpward, GivePairs, HaveAllFew, IsFirstOutside, IsFirstNotUpward, IsFirstWide, RegionFaultStands, own_offsets};
 ghost use Rattle.slope.specs.Gathering.{AreOfListed, RegionRefusalStands, region_fault_of};
 
 use crate::ground::{Ground, region_at};
-use crate::pattern::first_not_upward;
 use crate::place_index::index_of;
 use crate::slope_pairs::pairs_of;
-use crate::{MOST_OFFSETS, Pattern, RegionFault, Selection, SlopeFault, Up};
+use crate::{RegionFault, SlopeFault};
 use blocks_file::BlockModel;
 use prec_file::Predecessors;
+use slope_offsets::{MOST_OFFSETS, Pattern, Selection, Up, first_not_upward};
 use std::alloc::{AllocError, Global};
 
 /// The most regions of slopes.
@@ -25,7 +25,7 @@ fn most_regions()
 // The first block that is of no listed region.
 fn first_outside(model: &BlockModel, listed: &[Vec<(i32, i32, i32)>]) -> Option<u32>
     ensures { MatchOption result
-        (AreRegions (map (λ w. w.items) listed.now) model.now)
+        (AreListedRegions (map (λ w. w.items) listed.now) model.now)
         (IsFirstOutside (map (λ w. w.items) listed.now) model.now) }
 {
     for block in 0..model.len() {
@@ -68,7 +68,7 @@ fn first_wide(listed: &[Vec<(i32, i32, i32)>]) -> Option<usize>
 // What is wrong with regions, or nothing.
 fn refused(model: &BlockModel, listed: &[Vec<(i32, i32, i32)>]) -> Result<(), RegionFault>
     ensures { MatchResult result
-        (λ _. AreRegions (map (λ w. w.items) listed.now) model.now
+        (λ _. AreListedRegions (map (λ w. w.items) listed.now) model.now
         × AreAllUpward (map (λ w. w.items) listed.now)
         × HaveAllFew (map (λ w. w.items) listed.now)
         × (length listed.now ≤ MOST_REGIONS))
@@ -122,7 +122,8 @@ pub fn predecessors_by_region(
     selection: Selection,
 ) -> Result<Predecessors, RegionFault>
     ensures made { MatchResult result
-        (AreOwnSlopes model.now (own_offsets (map (λ w. w.items) listed.now) model.now) up selection)
+        (AreOwnSlopes model.now (own_offsets (map
+        (λ w. w.items) listed.now) model.now) up selection)
         (RegionFaultStands (map (λ w. w.items) listed.now) model.now up selection) }
     ensures narrow { IfOk result AreNarrow }
     ensures right { IfOk result (λ _.

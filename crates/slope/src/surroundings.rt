@@ -1,17 +1,19 @@
 //! Tells which block stands at each offset of a block's own region from it, and looks each up at most once.
 
 ghost use Rattle.std.specs.Prelude.{◌≡◌, ◌<◌, ◌⊎◌, true, false, All, IsTrue, ◌↔◌, Contains, MatchOption, MatchResult, length};
-ghost use Rattle.slope.specs.Slopes.{AreApartBelow, listed_at, place_of};
-ghost use Rattle.slope.specs.Gathering.{ArePlacesOf, HaveRegions, IsIndex, LiesAtNone, LiesAtSome, StandsAtOffset, StandsNone, offset_at, owns, region_by, rest_after};
+ghost use Rattle.slope.specs.Slopes.{AreApartBelow, block_place};
+ghost use Rattle.slope_offsets.specs.Offsets.{listed_at};
+ghost use Rattle.slope.specs.Gathering.{ArePlacesOf, HaveRegions, IsIndex, LiesAtNone, LiesAtSome, StandsAtOffset, StandsNone, owns};
+ghost use Rattle.slope_offsets.specs.Gathering.{offset_at, rest_after};
 
+use crate::SlopeFault;
 use crate::ground::Ground;
 use crate::guesses::Guesses;
 use crate::place_index::PlaceIndex;
 use crate::place_search::block_at;
 use crate::sight::{Sight, sight_of};
-use crate::two_steps::leads_on_at;
-use crate::{SlopeFault, Up};
 use blocks_file::{BlockModel, Place};
+use slope_offsets::{Up, leads_on_at};
 use std::alloc::Global;
 use std::marker::Model;
 
@@ -96,7 +98,7 @@ impl<'a> Surroundings<'a> {
         requires { block < self.old.model.blocks }
         ensures same { ArePlacesOf self.new
             self.old.model self.old.by_column self.old.patterns self.old.up }
-        ensures from { self.new.from ≡ place_of self.old.model block }
+        ensures from { self.new.from ≡ block_place self.old.model block }
         ensures region { result < length self.old.patterns }
         ensures own { owns self.old block ≡ listed_at self.old.patterns result }
         ensures offsets { self.new.offsets ≡ listed_at self.old.patterns result }

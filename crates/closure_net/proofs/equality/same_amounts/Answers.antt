@@ -21,5 +21,8 @@ loop-k-preserved g c =
     below_more _ _ c.loop-k.invariant (x ∙ c.if-not-same.ensures.0 refl ∙ sym y)
 
 pub returns : goal.returns
-returns g c =
-    (λ t. same_amounts_at g.G.OrderedGroup.parts_of zero_amount c.args.xs.now c.args.ys.now c.if-xs-ys.false (λ i l. c.loop-k.invariant i (omega arith)), λ e. refl)
+returns g c = (
+  λ t. same_amounts_at g.G.OrderedGroup.parts_of zero_amount c.args.xs.now c.args.ys.now c.if-xs-ys.false
+      (λ i l. c.loop-k.invariant i (omega arith)),
+  λ e. refl,
+)

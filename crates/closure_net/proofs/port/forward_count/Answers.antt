@@ -3,7 +3,17 @@ use Rattle.closure_net.proofs.PortPlaces.{length_fore, fore_most}
 use Rattle.closure_net.proofs.port.forward_count.Goals as goal
 
 pub overflow_cast-result : goal.overflow_cast-result
-overflow_cast-result c = omega (arith, length_fore c.args.rests.now.pairs c.args.b _ c.above.ensures, fore_most c.args.rests.now.pairs c.args.b, c.len-n.ensures.few)
+overflow_cast-result c = omega (
+  arith,
+  length_fore c.args.rests.now.pairs c.args.b _ c.above.ensures,
+  fore_most c.args.rests.now.pairs c.args.b,
+  c.len-n.ensures.few,
+)
 
 pub returns-clause-few : goal.returns-clause-few
-returns-clause-few c = omega (arith, length_fore c.args.rests.now.pairs c.args.b _ c.above.ensures, fore_most c.args.rests.now.pairs c.args.b, c.len-n.ensures.few)
+returns-clause-few c = omega (
+  arith,
+  length_fore c.args.rests.now.pairs c.args.b _ c.above.ensures,
+  fore_most c.args.rests.now.pairs c.args.b,
+  c.len-n.ensures.few,
+)

@@ -12,12 +12,14 @@ loop-b-preserved g c =
     elim c.if-has_room.branch [
       | then-has_room w ↦ record {
         blocks = ap (λ s. s.blocks) w.search-is ∙ w.add.ensures.0 ∙ c.loop-b.invariant.blocks;
-        found = passed_add W (λ x. x) c.args.search.now.found c.loop-b.search.found c.if-has_room.search.found b b c.loop-b.invariant.found
+        found = passed_add W (λ x. x) c.args.search.now.found c.loop-b.search.found c.if-has_room.search.found b b
+            c.loop-b.invariant.found
             (c.has_room.ensures.0 w.if-has_room.true) refl (ap (λ s. s.found) w.search-is ∙ w.add.ensures.1);
       }
       | else-has_room w ↦ record {
         blocks = ap (λ s. s.blocks) w.search-is ∙ c.loop-b.invariant.blocks;
-        found = passed_same W (λ x. x) c.args.search.now.found c.loop-b.search.found c.if-has_room.search.found _ (ap (λ s. s.found) w.search-is)
+        found = passed_same W (λ x. x) c.args.search.now.found c.loop-b.search.found c.if-has_room.search.found _
+            (ap (λ s. s.found) w.search-is)
             (passed_skip W (λ x. x) c.args.search.now.found c.loop-b.search.found b c.loop-b.invariant.found
             (λ n. apart _ w.if-has_room.false (c.has_room.ensures.1 n)));
       }

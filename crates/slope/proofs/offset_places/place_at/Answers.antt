@@ -21,7 +21,8 @@ returns-in_err-z c = rw c.from_residual-in_err-z.ensures (λ to f e.
     let u : SFits w32 c.args.from.z = search rules in
     let v : SFits w32 c.args.offset.2 = search rules in
     let b = c.height.ensures.bound in
-    let n = height_of c.args.up c.args.from to c.args.offset e c.height.result (c.height.ensures.up ∙ to_z-of_z w32 c.args.offset.2 v) in
+    let n = height_of c.args.up c.args.from to c.args.offset e c.height.result
+    (c.height.ensures.up ∙ to_z-of_z w32 c.args.offset.2 v) in
     c.in_err-z.ensures to.z f.2 (omega (arith, ints, n, u, b)))
 
 pub returns : goal.returns
@@ -39,4 +40,6 @@ returns c =
     let b = c.in_ok-y.ensures in
     let d = c.in_ok-z.ensures in
     let h = c.height.ensures.bound in
-    at_place c.args.up c.args.from _ c.args.offset c.height.result (c.height.ensures.up ∙ to_z-of_z w32 c.args.offset.2 r) (omega (arith, ints, u, p, x, a)) (omega (arith, ints, v, q, y, b)) (omega (arith, ints, w, z, d, h))
+    at_place c.args.up c.args.from _ c.args.offset c.height.result
+    (c.height.ensures.up ∙ to_z-of_z w32 c.args.offset.2 r) (omega (arith, ints, u, p, x, a))
+    (omega (arith, ints, v, q, y, b)) (omega (arith, ints, w, z, d, h))

@@ -13,5 +13,14 @@ invariant_of-result g c =
     let parts = g.G.OrderedGroup.parts_of in
     let P : List g.row.G.Denot → Type 0 = λ xs. WorthsFit (map parts xs) in
     net_parts c.args.rests (map parts c.args.worths.items)
-    (omega (arith, c.len.ensures.is, c.if-len.false, c.len-2.ensures, c.deref.ensures.len, ap length c.deref.ensures.value, length-map c.args.worths.items parts))
+    (omega (
+      arith,
+      c.len.ensures.is,
+      c.if-len.false,
+      c.len-2.ensures,
+      c.deref.ensures.len,
+      ap length
+          c.deref.ensures.value,
+      length-map c.args.worths.items parts,
+    ))
     c.len.ensures.all (subst P c.deref.ensures.value c.if-not-worths_fit.ensures)

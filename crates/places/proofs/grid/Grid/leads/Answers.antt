@@ -6,4 +6,5 @@ use Rattle.places.proofs.grid.Grid.leads.Goals as goal
 pub returns-then-cell_to-home : goal.returns-then-cell_to-home
 returns-then-cell_to-home c =
     let g = c.args.self.now in
-    sym (any_to (λ k. cell_at g c.args.b k == home_at g c.args.p) (ways_at g c.args.b) c.loop-k.k (grind (arith, common_steps)) (eq-eqb _ _ (grind (arith, nat_tests, common_steps))))
+    sym (any_to (λ k. cell_at g c.args.b k == home_at g c.args.p) (ways_at g c.args.b) c.loop-k.k
+    (grind (arith, common_steps)) (eq-eqb _ _ (grind (arith, nat_tests, common_steps))))

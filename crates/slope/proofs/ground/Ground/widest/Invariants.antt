@@ -1,5 +1,5 @@
 use Rattle.fixed_worth.proofs.Common.{ℕ, ◌<◌, ◌≤◌, length}
-use Rattle.slope.specs.Slopes.{listed_at}
+use Rattle.slope_offsets.specs.Offsets.{listed_at}
 use Rattle.slope.proofs.ground.Ground.widest.Given as goal
 
 abbrev pub invariant-loop-pattern : goal.invariant-loop-pattern

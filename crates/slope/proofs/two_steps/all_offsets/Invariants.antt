@@ -1,5 +1,0 @@
-use Rattle.slope.specs.Gathering.{HoldsOf}
-use Rattle.slope.proofs.two_steps.all_offsets.Given as goal
-
-abbrev pub invariant-loop-pattern : goal.invariant-loop-pattern
-invariant-loop-pattern l = HoldsOf l.patterns l.pattern-index l.all.items

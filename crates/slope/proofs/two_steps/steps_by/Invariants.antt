@@ -1,5 +1,0 @@
-use Rattle.slope.specs.Gathering.{AreStepsOfRegions}
-use Rattle.slope.proofs.two_steps.steps_by.Given as goal
-
-abbrev pub invariant-loop-pattern : goal.invariant-loop-pattern
-invariant-loop-pattern l = AreStepsOfRegions l.selection l.patterns l.all l.pattern-index l.steps.items

@@ -1,5 +1,0 @@
-use Rattle.slope.specs.Gathering.{AreFirstSteps}
-use Rattle.slope.proofs.two_steps.steps_to.Given as goal
-
-abbrev pub invariant-loop-a : goal.invariant-loop-a
-invariant-loop-a l = AreFirstSteps l.offsets l.all l.whole l.a l.steps.items

@@ -1,0 +1,2 @@
+pub mod SlopeAnswers
+pub mod Reduced

@@ -1,0 +1,3 @@
+-- `slopes`, and what reduced pairs decide
+pub mod Slopes
+pub mod Reduced
