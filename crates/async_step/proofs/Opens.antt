@@ -1,5 +1,6 @@
 -- The opening state.
-use Rattle.fixed_worth.proofs.Common.{◌≡◌, ℕ, zero, suc, ◌≤◌, Bool, not, List, ◌∷◌, length, map, replicate, refl, ap, subst, arith, All, length-replicate, ints, common_steps}
+use Rattle.fixed_worth.proofs.Common.{◌≡◌, ℕ, zero, suc, ◌≤◌, Bool, not, List, ◌∷◌, length, map, replicate, refl, ap}
+use Rattle.fixed_worth.proofs.Common.{subst, arith, All, length-replicate, ints, common_steps}
 use Rattle.std.proofs.Math.ListN.{get_or-map}
 use Rattle.fixed_worth.specs.declared.limits.TheConstants.{MOST_BLOCKS}
 use Rattle.ordered_group.specs.Prelude.{Amount, zero_amount, minus, positive, negative, FitsPair, is_zero, amount_at}
@@ -23,14 +24,18 @@ rooms_fit : (net : NetView) → IsNet net → (b : ℕ) → FitsPair (minus (neg
 rooms_fit net h b = grind (arith, common_steps)
 
 -- the lists show the opening state
-pub shows_opening : (net : NetView) (v : StateView) (n m : ℕ) → v.excess ≡ map positive net.worths → v.label ≡ replicate n 0 → v.source ≡ map positive net.worths → v.sink ≡ replicate n zero_amount → v.flow ≡ replicate m zero_amount
-    → v.operation ≡ replicate n Idle → v.at_source ≡ zero_amount → v.at_sink ≡ zero_amount → v.steps ≡ 0 → state_of v ≡ opening net
+pub shows_opening : (net : NetView) (v : StateView) (n m : ℕ) → v.excess ≡ map positive net.worths
+    → v.label ≡ replicate n 0 → v.source ≡ map positive net.worths → v.sink ≡ replicate n zero_amount
+    → v.flow ≡ replicate m zero_amount
+    → v.operation ≡ replicate n Idle → v.at_source ≡ zero_amount → v.at_sink ≡ zero_amount → v.steps ≡ 0
+    → state_of v ≡ opening net
 shows_opening net v n m e l s t f o back gone k = grind (arith, common_steps)
 
 -- and all that is in it fits
 pub opening_fits : (net : NetView) → IsNet net → All FitsPair (map positive net.worths) → Fits net (opening net)
 opening_fits net h fit =
-    let each : (b : ℕ) → FitsPair (positive (amount_at net.worths b)) = λ b. subst FitsPair (get_or-map positive net.worths b zero_amount) (all_fit (map positive net.worths) fit b) in
+    let each : (b : ℕ) → FitsPair (positive (amount_at net.worths b)) = λ b. subst FitsPair
+    (get_or-map positive net.worths b zero_amount) (all_fit (map positive net.worths) fit b) in
     record {
       excess = each;
       label = λ b. omega arith;
@@ -42,9 +47,14 @@ opening_fits net h fit =
       at_sink = zero_fits;
     }
 
-pub opens : (net : NetView) (v : StateView) (n m : ℕ) → IsNet net → n ≡ length net.worths → m ≡ length net.pairs → All FitsPair v.excess → v.excess ≡ map positive net.worths → v.flow ≡ replicate m zero_amount → v.operation ≡ replicate n Idle → state_of v ≡ opening net → IsStateOf net v
+pub opens : (net : NetView) (v : StateView) (n m : ℕ) → IsNet net → n ≡ length net.worths → m ≡ length net.pairs
+    → All FitsPair v.excess → v.excess ≡ map positive net.worths → v.flow ≡ replicate m zero_amount
+    → v.operation ≡ replicate n Idle → state_of v ≡ opening net → IsStateOf net v
 opens net v n m h bn bm fit e f o s = grind (arith, common_steps, length-replicate, opening_fits)
 
-pub opening_state : (v : StateView) (n k : ℕ) (ready undone : List Bool) → n ≤ MOST_BLOCKS → k ≡ n → length v.excess ≡ n → length v.source ≡ n → v.label ≡ replicate n 0 → v.sink ≡ replicate n zero_amount → v.operation ≡ replicate n Idle
-    → IsMarked (λ b. is_positive (amount_at v.excess b)) k ready → IsMarked (λ b. not (is_zero (amount_at v.excess b))) k undone → IsState v ready undone
+pub opening_state : (v : StateView) (n k : ℕ) (ready undone : List Bool) → n ≤ MOST_BLOCKS → k ≡ n
+    → length v.excess ≡ n → length v.source ≡ n → v.label ≡ replicate n 0 → v.sink ≡ replicate n zero_amount
+    → v.operation ≡ replicate n Idle
+    → IsMarked (λ b. is_positive (amount_at v.excess b)) k ready
+    → IsMarked (λ b. not (is_zero (amount_at v.excess b))) k undone → IsState v ready undone
 opening_state v n k ready undone few kn e s l t o w u = grind (arith, common_steps)

@@ -1,5 +1,6 @@
 -- What the calls on a state answer.
-use Rattle.std.specs.Prelude.{◌≡◌, ℕ, ◌+◌, ◌<◌, ◌≤◌, ◌^◌, Option, Some, None, List, length, take, slice_get, Result, MatchResult}
+use Rattle.std.specs.Prelude.{◌≡◌, ℕ, ◌+◌, ◌<◌, ◌≤◌, ◌^◌, Option, Some, None, List, length, take, slice_get, Result}
+use Rattle.std.specs.Prelude.{MatchResult}
 use Rattle.ordered_group.specs.Amount.{Amount, zero_amount, Below, FitsPair}
 use Rattle.closure_net.specs.Prelude.{NetView, ports}
 use Rattle.closure_net.specs.declared.port.Port.{Port}
@@ -8,7 +9,8 @@ use Rattle.closure_net.specs.declared.port.PortKind.TheVariants.{Forward}
 use Rattle.machine_law.specs.declared.events.Event.{Event}
 use Rattle.machine_law.specs.declared.operations.Operation.{Operation}
 use Rattle.machine_law.specs.declared.operations.Operation.TheVariants.{Idle, Scan, PushDue, TakeDue, GiveDue, RaiseDue}
-use Rattle.machine_law.specs.Prelude.{State, opening, room, capacity, end_label, Step, Run, IsStateOfRun, next_kind, advance, push_amount}
+use Rattle.machine_law.specs.Prelude.{State, opening, room, capacity, end_label, Step, Run, IsStateOfRun, next_kind}
+use Rattle.machine_law.specs.Prelude.{advance, push_amount}
 use Rattle.async_step.specs.declared.limits.TheConstants.{MOST_STEPS}
 use Rattle.async_step.specs.Views.{StateView, state_of}
 use Rattle.async_step.specs.declared.saw.Saw.{Saw}
@@ -94,25 +96,30 @@ CannotGo net old after TooManySteps = Fits net after × (MOST_STEPS ≤ old.step
 CannotGo net old after _ = ⊥
 
 -- the state stays as it is, since it can't go over to the later one
-pub record StateStays (net : NetView) (old : StateView) (after : State) (new : StateView) (refusal : StepRefusal) : Type 0 where
+pub record StateStays (net : NetView) (old : StateView) (after : State) (new : StateView) (refusal : StepRefusal) :
+    Type 0 where
   pub same : new ≡ old
   pub why : CannotGo net old after refusal
 
 -- the state goes over to this one, or stays where it can't
 abbrev pub Leads : {X : Type 0} → NetView → StateView → State → StateView → Result X StepRefusal → Type 0
-Leads net old after new result = MatchResult result (λ x. GoesTo net old after new) (λ e. StateStays net old after new e)
+Leads net old after new result = MatchResult result (λ x. GoesTo net old after new)
+    (λ e. StateStays net old after new e)
 
 -- the state goes over to this one, and the answer tells what was seen, moved or raised; or the state stays where it
 -- can't
-abbrev pub LeadsTelling : {N : Type 0} → (N → Amount) → NetView → StateView → State → Saw Amount → StateView → Result (Saw N) StepRefusal → Type 0
-LeadsTelling f net old after tells new result = MatchResult result (λ saw. GoesTo net old after new × (saw_as f saw ≡ tells)) (λ e. StateStays net old after new e)
+abbrev pub LeadsTelling : {N : Type 0} → (N → Amount) → NetView → StateView → State → Saw Amount → StateView
+    → Result (Saw N) StepRefusal → Type 0
+LeadsTelling f net old after tells new result = MatchResult result (λ saw. GoesTo net old after new
+    × (saw_as f saw ≡ tells)) (λ e. StateStays net old after new e)
 
 -- one step was made, and this is what it saw, moved or raised
-pub record IsStepTaken (net : NetView) (old : StateView) (event : Event) (new : StateView) (saw : Saw Amount) : Type 0 where
-  pub step : Step net (state_of old) event (state_of new)
-  pub saw_is : saw ≡ answer net (state_of old) event.block
-  pub counted : old.steps < MOST_STEPS
-  pub state : IsStateOf net new
+pub record IsStepTaken (net : NetView) (old : StateView) (event : Event) (new : StateView) (saw : Saw Amount) : Type 0
+  where
+    pub step : Step net (state_of old) event (state_of new)
+    pub saw_is : saw ≡ answer net (state_of old) event.block
+    pub counted : old.steps < MOST_STEPS
+    pub state : IsStateOf net new
 
 -- the event's step is the one that is next for its block
 pub record IsNext (net : NetView) (s : State) (event : Event) : Type 0 where
@@ -122,12 +129,15 @@ pub record IsNext (net : NetView) (s : State) (event : Event) : Type 0 where
 -- the refusal stands, and none that comes before it
 abbrev pub RefusalStands : NetView → State → Event → StepRefusal → Type 0
 RefusalStands net s event NoSuchBlock = length net.worths ≤ event.block
-RefusalStands net s event (OutOfTurn kind) = (event.block < length net.worths) × (next_kind net s event.block ≡ kind) × ¬ (kind ≡ event.kind)
+RefusalStands net s event (OutOfTurn kind) = (event.block < length net.worths) × (next_kind net s event.block ≡ kind)
+    × ¬ (kind ≡ event.kind)
 RefusalStands net s event TooLarge = IsNext net s event × ¬ (Fits net (advance net s event.block))
-RefusalStands net s event TooManySteps = IsNext net s event × Fits net (advance net s event.block) × (MOST_STEPS ≤ s.steps)
+RefusalStands net s event TooManySteps = IsNext net s event × Fits net (advance net s event.block)
+    × (MOST_STEPS ≤ s.steps)
 
 -- a refused step: it changes nothing
-pub record IsStepRefused (net : NetView) (old : StateView) (event : Event) (new : StateView) (refusal : StepRefusal) : Type 0 where
+pub record IsStepRefused (net : NetView) (old : StateView) (event : Event) (new : StateView) (refusal : StepRefusal) :
+    Type 0 where
   pub same : new ≡ old
   pub stands : RefusalStands net (state_of old) event refusal
 

@@ -5,7 +5,8 @@ use Rattle.closure_net.specs.Network.{NetView}
 use Rattle.machine_law.specs.States.{State, with_value_at}
 use Rattle.async_step.specs.Views.{StateView}
 use Rattle.async_step.specs.declared.changing.Change.{Change}
-use Rattle.async_step.specs.declared.changing.Change.TheVariants.{Nothing, Excess, Label, Source, Sink, Flow, AtSource, AtSink}
+use Rattle.async_step.specs.declared.changing.Change.TheVariants.{Nothing, Excess, Label, Source, Sink, Flow, AtSource}
+use Rattle.async_step.specs.declared.changing.Change.TheVariants.{AtSink}
 
 -- with each amount replaced by what f says of it
 abbrev pub change_as : {N M : Type 0} → (N → M) → Change N → Change M

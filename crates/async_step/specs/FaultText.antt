@@ -15,5 +15,6 @@ step_refusal_text TooManySteps = codes "TooManySteps"
 
 -- The fault's name, and the place and the refusal in brackets.
 abbrev pub replay_fault_text : ReplayFault → List ℕ
-replay_fault_text (Refused place refusal) = codes "Refused(" ++ decimal place ++ codes ", " ++ step_refusal_text refusal ++ codes ")"
+replay_fault_text (Refused place refusal) = codes "Refused(" ++ decimal place ++ codes ", "
+    ++ step_refusal_text refusal ++ codes ")"
 replay_fault_text NoMemory = codes "NoMemory"

@@ -1,5 +1,6 @@
 -- A set of blocks as marks, and what is counted of them.
-use Rattle.std.specs.Prelude.{◌≡◌, ℕ, ◌+◌, ◌-◌, ◌*◌, ◌/◌, ◌<◌, ◌≤◌, ◌^◌, nat_le, Bool, true, false, if◌then◌else◌, List, length, slice_index, slice_index_or}
+use Rattle.std.specs.Prelude.{◌≡◌, ℕ, ◌+◌, ◌-◌, ◌*◌, ◌/◌, ◌<◌, ◌≤◌, ◌^◌, nat_le, Bool, true, false, if◌then◌else◌, List}
+use Rattle.std.specs.Prelude.{length, slice_index, slice_index_or}
 use Rattle.fixed_worth.specs.declared.limits.TheConstants.{MOST_BLOCKS}
 use Rattle.ordered_group.specs.Sets.{count_in}
 use Rattle.async_step.specs.declared.marks.TheConstants.{SMALL, MIDDLE, LARGE}
@@ -41,7 +42,7 @@ NoneWithin marks from to = (b : ℕ) → from ≤ b → b < to → mark_at marks
 
 -- block b is the first of the set from one block up to another
 pub record IsFirstWithin (marks : List Bool) (from to b : ℕ) : Type 0 where
-  pub behind : from ≤ b
+  pub past : from ≤ b
   pub inside : b < to
   pub here : mark_at marks b ≡ true
   pub first : NoneWithin marks from b

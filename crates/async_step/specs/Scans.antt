@@ -27,7 +27,8 @@ read_or_zero (Some capacity) = capacity
 -- with one more port that may be the best
 abbrev pub with_candidate : Port → ℕ → Operation Amount → Operation Amount
 with_candidate port beyond Idle = Idle
-with_candidate port beyond (Scan have place read best) = Scan have place read (Some (better_of best (record { port = port; capacity = read_or_zero read; label = beyond })))
+with_candidate port beyond (Scan have place read best) = Scan have place read
+    (Some (better_of best (record { port = port; capacity = read_or_zero read; label = beyond })))
 with_candidate port beyond (PushDue have best) = PushDue have best
 with_candidate port beyond (TakeDue amount port₁) = TakeDue amount port₁
 with_candidate port beyond (GiveDue amount port₁) = GiveDue amount port₁
@@ -48,5 +49,6 @@ after_label_by count label port beyond o = after_port_by count label (with_candi
 
 -- after a read at a port of this kind whose capacity isn't read: of its capacity, or of the label beyond a forward one
 abbrev pub operation_after_look : NetView → State → ℕ → Port → PortKind → Operation Amount → Operation Amount
-operation_after_look net s b port Forward o = after_label_by (length (ports net b)) (s.label b) port (end_label net s port) o
+operation_after_look net s b port Forward o = after_label_by (length (ports net b)) (s.label b) port
+    (end_label net s port) o
 operation_after_look net s b port _ o = after_capacity_by (length (ports net b)) (s.label b) (capacity net s b port) o

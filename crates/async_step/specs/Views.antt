@@ -38,7 +38,8 @@ state_of v = record {
 }
 
 -- lists of values, as lists of amounts
-abbrev pub view_of : {N : Type 0} → (N → Amount) → List N → List ℕ → List N → List N → List N → List (Operation N) → N → N → ℕ → StateView
+abbrev pub view_of : {N : Type 0} → (N → Amount) → List N → List ℕ → List N → List N → List N → List (Operation N) → N
+    → N → ℕ → StateView
 view_of f excess label source sink flow operation at_source at_sink steps = record {
   excess = map f excess;
   label = label;
@@ -74,5 +75,6 @@ pub record IsMarked (test : ℕ → Bool) (n : ℕ) (marks : List Bool) : Type 0
 -- the lists, with the blocks that are ready and those that are not done
 pub record IsState (v : StateView) (ready undone : List Bool) : Type 0 where
   pub sized : IsSized v
-  pub waiting : IsMarked (λ b. is_waiting (amount_at v.excess b) (operation_at v.operation b)) (length v.operation) ready
+  pub waiting : IsMarked (λ b. is_waiting (amount_at v.excess b) (operation_at v.operation b)) (length v.operation)
+      ready
   pub busy : IsMarked (λ b. is_busy (amount_at v.excess b) (operation_at v.operation b)) (length v.operation) undone

@@ -19,6 +19,29 @@
 //!
 //! `State::quiet` takes constant time, and `State::waiting` passes over stretches of up to 262,144
 //! blocks at once.
+//!
+//! An example: two blocks worth 4 rest on one worth -1. After a run of 140 steps the state is quiet, and [`replay`] of
+//! the same steps leads to a flow that takes 1 from the source. A block that has 4 sees them when it reads its excess.
+//! Tried in `machine_tests/src/steps.rt`.
+//!
+//! ```rust
+//! same(rt, state.count(), steps);
+//! holds(rt, state.quiet());
+//!
+//! let mut state = State::open(alloc, &net).expect(&rt, "memory");
+//! make_rows(&rt, &mut state, &net);
+//! is_quiet_after(&rt, &state, 140);
+//!
+//! let state = replay(alloc, net, events).expect(rt, "steps");
+//! match state.into_flow(net) {
+//!     Ok(flow) => flow,
+//!     Err(_) => panic!(rt; "a state that isn't quiet"),
+//! }
+//!
+//! let event = Event { block, kind: RE };
+//! let saw = state.step(net, event).ok();
+//! same(rt, saw, Some(Saw::Excess(worth(4))));
+//! ```
 #![tactic(auto)]
 
 mod changing;

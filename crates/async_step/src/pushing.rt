@@ -176,7 +176,11 @@ impl<G: OrderedGroup> State<G> {
         requires block { block < length net.now.worths }
         requires other { other < length net.now.worths }
         ensures { let s = state_of self.old in Leads net.now self.old
-            (record (with_operation s block Idle) { excess = with_value_at s.excess other (plus (s.excess other) (G.parts_of amount)) }) self.new result }
+            (record
+            (with_operation s block Idle) {
+              excess = with_value_at s.excess other
+                  (plus (s.excess other) (G.parts_of amount));
+            }) self.new result }
     {
         let more = self
             .excess(other)

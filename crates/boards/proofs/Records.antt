@@ -1,13 +1,17 @@
 -- What turns leave of a board whose steps may be written down.
-use Rattle.fixed_worth.proofs.Common.{◌≡◌, ℕ, ◌<◌, ◌≤◌, arith, length, Bool, true, Option, refl, sym, ap, subst, ◌∙◌, if◌then◌else◌, ◌∷◌, [], ◌++◌, common_steps}
+use Rattle.fixed_worth.proofs.Common.{◌≡◌, ℕ, ◌<◌, ◌≤◌, arith, length, Bool, true, Option, refl, sym, ap, subst, ◌∙◌}
+use Rattle.fixed_worth.proofs.Common.{if◌then◌else◌, ◌∷◌, [], ◌++◌, common_steps}
 use Rattle.machine_law.specs.Steps.{next_event}
-use Rattle.boards.specs.Prelude.{AreTurnsTo, BoardView, shown_state, IsBoard, IsBlockDue, HasServed, IsStepOf, IsTurnEnd, IsTurn, RecordView, RecordsTurns, written_by, events_after, written_after, Writes, RecordGoesOn}
+use Rattle.boards.specs.Prelude.{AreTurnsTo, BoardView, shown_state, IsBoard, IsBlockDue, HasServed, IsStepOf}
+use Rattle.boards.specs.Prelude.{IsTurnEnd, IsTurn, RecordView, RecordsTurns, written_by, events_after, written_after}
+use Rattle.boards.specs.Prelude.{Writes, RecordGoesOn}
 use Rattle.boards.specs.declared.turn.Turn.{Turn}
 use Rattle.boards.specs.declared.turn.Turn.TheVariants.{Stepped, Idle as Unserved, Ended}
 use Rattle.boards.specs.declared.turn.End.{End}
 use Rattle.boards.proofs.FurtherTurns.{written_after_none, written_after_both}
 use Rattle.boards.proofs.Alone.{served_counts}
-use Rattle.boards.proofs.Ends.{turned, same_turns, more_turns, turns_counted, end_same, served_run, ended_run, further_run}
+use Rattle.boards.proofs.Ends.{turned, same_turns, more_turns, turns_counted, end_same, served_run, ended_run}
+use Rattle.boards.proofs.Ends.{further_run}
 
 -- ---- a run that goes on
 
@@ -21,13 +25,17 @@ record_stays r limit within = record {
 }
 
 -- by a turn that makes a step
-pub record_served : (first old new : RecordView) (own : Option ℕ) (from limit b : ℕ) (more : Bool) → IsBoard new.board → RecordGoesOn first old limit → IsBlockDue old.board own from limit b × HasServed old.board b new.board more
+pub record_served : (first old new : RecordView) (own : Option ℕ) (from limit b : ℕ) (more : Bool) → IsBoard new.board
+    → RecordGoesOn first old limit → IsBlockDue old.board own from limit b × HasServed old.board b new.board more
     → Writes old (Stepped b more) new → RecordGoesOn first new limit
 record_served first old new own from limit b more is goes h writes =
     let event = next_event old.board.net (shown_state old.board) b in
-    let here : new.events ≡ written_after old.records old.events (event ∷ []) = ap (λ (r : RecordView). r.events) writes in
-    let same : written_after old.records old.events (event ∷ []) ≡ written_after first.records (written_after first.records first.events goes.board.events) (event ∷ []) =
-    ap (λ t. written_after t old.events (event ∷ [])) goes.records ∙ ap (λ xs. written_after first.records xs (event ∷ [])) goes.events in
+    let here : new.events ≡ written_after old.records old.events (event ∷ []) = ap (λ (r : RecordView). r.events)
+    writes in
+    let same : written_after old.records old.events (event ∷ []) ≡ written_after first.records
+    (written_after first.records first.events goes.board.events) (event ∷ []) =
+    ap (λ t. written_after t old.events (event ∷ [])) goes.records
+    ∙ ap (λ xs. written_after first.records xs (event ∷ [])) goes.events in
     let counted = served_counts old.board new.board b more h.1 in
     record {
       board = record {
@@ -42,7 +50,9 @@ record_served first old new own from limit b more is goes h writes =
     }
 
 -- by one that makes none
-pub record_ended : (first old new : RecordView) (own : Option ℕ) (from limit : ℕ) (end : End) → RecordGoesOn first old limit → IsTurnEnd old.board own from limit new.board end → Writes old (Ended end) new → RecordGoesOn first new limit
+pub record_ended : (first old new : RecordView) (own : Option ℕ) (from limit : ℕ) (end : End)
+    → RecordGoesOn first old limit → IsTurnEnd old.board own from limit new.board end → Writes old (Ended end) new
+    → RecordGoesOn first new limit
 record_ended first old new own from limit end goes h writes =
     let same = end_same old.board new.board own from limit end h in
     record {
@@ -58,7 +68,8 @@ record_ended first old new own from limit end goes h writes =
     }
 
 -- by further turns
-pub record_further : (first old new : RecordView) (limit : ℕ) → RecordGoesOn first old limit → RecordGoesOn old new limit → RecordGoesOn first new limit
+pub record_further : (first old new : RecordView) (limit : ℕ) → RecordGoesOn first old limit
+    → RecordGoesOn old new limit → RecordGoesOn first new limit
 record_further first old new limit goes further = record {
   board = record {
     net_is = further.board.net_is ∙ goes.board.net_is;
@@ -66,36 +77,53 @@ record_further first old new limit goes further = record {
     events = goes.board.events ++ further.board.events;
     run = further_run first.board old.board new.board limit goes.board further.board;
   };
-  events = further.events ∙ ap (λ t. written_after t old.events further.board.events) goes.records ∙ ap (λ xs. written_after first.records xs further.board.events) goes.events
+  events = further.events ∙ ap (λ t. written_after t old.events further.board.events) goes.records
+      ∙ ap (λ xs. written_after first.records xs further.board.events) goes.events
       ∙ written_after_both first.records first.events goes.board.events further.board.events;
   records = further.records ∙ goes.records;
   room = further.room ∙ goes.room;
 }
 
 -- what is written down of a turn that is the step of a block
-pub written_is : (old : RecordView) (b : ℕ) (new : BoardView) (turn : Turn) → IsStepOf old.board b new turn → written_by old.records old.events (next_event old.board.net (shown_state old.board) b) turn ≡ events_after old turn
-written_is old b new (Stepped block more) h = ap (λ x. written_by old.records old.events (next_event old.board.net (shown_state old.board) x) (Stepped block more)) (sym h.0)
+pub written_is : (old : RecordView) (b : ℕ) (new : BoardView) (turn : Turn) → IsStepOf old.board b new turn
+    → written_by old.records old.events (next_event old.board.net (shown_state old.board) b) turn
+    ≡ events_after old turn
+written_is old b new (Stepped block more) h = ap
+    (λ x. written_by old.records old.events (next_event old.board.net (shown_state old.board) x) (Stepped block more))
+    (sym h.0)
 written_is old b new turn h = refl
 
 -- where a block is due there is room for its event
-pub room_due : (r : RecordView) (own : Option ℕ) (from steps b capacity : ℕ) → RecordsTurns r capacity → IsBlockDue r.board own from steps b → (r.records ≡ true → steps ≤ r.room) → r.records ≡ true → length r.events < capacity
+pub room_due : (r : RecordView) (own : Option ℕ) (from steps b capacity : ℕ) → RecordsTurns r capacity
+    → IsBlockDue r.board own from steps b → (r.records ≡ true → steps ≤ r.room) → r.records ≡ true
+    → length r.events < capacity
 room_due r own from steps b capacity is due room e = grind (arith, common_steps, turns_counted)
 
 -- ---- the events that are written down are the turns
-written_turns : (old : RecordView) (new : BoardView) (own : Option ℕ) (from steps : ℕ) (turn : Turn) → IsBoard new → IsTurn old.board own from steps new turn → old.records ≡ true → AreTurnsTo old.board.net old.events (shown_state old.board) → AreTurnsTo new.net (events_after old turn) (shown_state new)
+written_turns : (old : RecordView) (new : BoardView) (own : Option ℕ) (from steps : ℕ) (turn : Turn) → IsBoard new
+    → IsTurn old.board own from steps new turn → old.records ≡ true
+    → AreTurnsTo old.board.net old.events (shown_state old.board)
+    → AreTurnsTo new.net (events_after old turn) (shown_state new)
 written_turns old new own from steps (Stepped block more) is h e run =
-    subst (λ t. AreTurnsTo new.net (if t then old.events ++ next_event old.board.net (shown_state old.board) block ∷ [] else old.events) (shown_state new)) (sym e)
+    subst (λ t. AreTurnsTo new.net
+    (if t then old.events ++ next_event old.board.net (shown_state old.board) block ∷ [] else old.events)
+    (shown_state new)) (sym e)
     (more_turns old.board new old.events own from steps block more is h.0 h.1 run)
-written_turns old new own from steps Unserved is h e run = same_turns old.board new old.events (ap (λ (b : BoardView). b.net) h.2) (ap (λ (b : BoardView). b.state) h.2) run
-written_turns old new own from steps (Ended end) is h e run = let same = end_same old.board new own from steps end h in same_turns old.board new old.events same.0 same.1 run
+written_turns old new own from steps Unserved is h e run = same_turns old.board new old.events
+    (ap (λ (b : BoardView). b.net) h.2) (ap (λ (b : BoardView). b.state) h.2) run
+written_turns old new own from steps (Ended end) is h e run = let same = end_same old.board new own from steps end
+    h in same_turns old.board new old.events same.0 same.1 run
 
-pub recorded : (old new : RecordView) (own : Option ℕ) (from steps : ℕ) (turn : Turn) (capacity : ℕ) → RecordsTurns old capacity → IsBoard new.board → IsTurn old.board own from steps new.board turn → Writes old turn new → RecordsTurns new capacity
+pub recorded : (old new : RecordView) (own : Option ℕ) (from steps : ℕ) (turn : Turn) (capacity : ℕ)
+    → RecordsTurns old capacity → IsBoard new.board → IsTurn old.board own from steps new.board turn
+    → Writes old turn new → RecordsTurns new capacity
 recorded old new own from steps turn capacity was is h writes =
     let records : new.records ≡ old.records = ap (λ (r : RecordView). r.records) writes in
     let room : new.room ≡ old.room = ap (λ (r : RecordView). r.room) writes in
     let events : new.events ≡ events_after old turn = ap (λ (r : RecordView). r.events) writes in
     record {
       turns = turned old.board new.board was.turns is own from steps turn h;
-      made = λ e. subst (λ xs. AreTurnsTo new.board.net xs (shown_state new.board)) (sym events) (written_turns old new.board own from steps turn is h (sym records ∙ e) (was.made (sym records ∙ e)));
+      made = λ e. subst (λ xs. AreTurnsTo new.board.net xs (shown_state new.board)) (sym events)
+          (written_turns old new.board own from steps turn is h (sym records ∙ e) (was.made (sym records ∙ e)));
       reserved = subst (λ k. k ≤ capacity) (sym room) was.reserved;
     }

@@ -68,14 +68,16 @@ pub record Halts (old : AuditView) (b : ℕ) (new : AuditView) : Type 0 where
 -- why a turn ends the run
 abbrev pub IsAuditEnd : AuditView → Option ℕ → ℕ → ℕ → AuditView → End → Type 0
 IsAuditEnd old own from steps new Quiet = IsQuiet old.board.net (shown_state old.board) × (new ≡ old)
-IsAuditEnd old own from steps new Stuck = (IsStuck old.board × (new ≡ old)) ⊎ OfDue old.board own from steps (λ b. Halts old b new)
+IsAuditEnd old own from steps new Stuck = (IsStuck old.board × (new ≡ old))
+    ⊎ OfDue old.board own from steps (λ b. Halts old b new)
 IsAuditEnd old own from steps new Limit = IsAtLimit old.board steps × (new ≡ old)
 IsAuditEnd old own from steps new Full = IsFull old steps × (new ≡ old)
 
 -- What a turn answers, and what it leaves: as a turn at a board, but for a history that has no room. There are fewer
 -- steps than are counted, so the limit is answered where it stands alone.
 abbrev pub IsAuditTurn : AuditView → Option ℕ → ℕ → ℕ → AuditView → Turn → Type 0
-IsAuditTurn old own from steps new (Stepped block more) = IsBlockDue old.board own from steps block × HasWritten old block new more
+IsAuditTurn old own from steps new (Stepped block more) = IsBlockDue old.board own from steps block
+    × HasWritten old block new more
 IsAuditTurn old own from steps new Unserved = MayWrite old steps × IsUnserved old.board own × (new ≡ old)
 IsAuditTurn old own from steps new (Ended end) = IsAuditEnd old own from steps new end
 

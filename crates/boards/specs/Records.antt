@@ -41,7 +41,8 @@ written_by records events event (Ended end) = events
 
 -- what is written down after a turn at this board, where the step was the next one of its block
 abbrev pub events_after : RecordView → Turn → List Event
-events_after r (Stepped block more) = written_by r.records r.events (next_event r.board.net (shown_state r.board) block) (Stepped block more)
+events_after r (Stepped block more) = written_by r.records r.events
+    (next_event r.board.net (shown_state r.board) block) (Stepped block more)
 events_after r Unserved = r.events
 events_after r (Ended end) = r.events
 

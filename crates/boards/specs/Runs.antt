@@ -2,7 +2,8 @@
 use Rattle.std.specs.Prelude.{ℕ, ◌<◌, List, length}
 use Rattle.closure_net.specs.Network.{NetView, FlowView}
 use Rattle.machine_law.specs.declared.events.Event.{Event}
-use Rattle.machine_law.specs.Prelude.{State, opening, IsQuiet, IsStateOfRun, ActiveRun, IsStateOfActiveRun, Run, advance, IsFlowOf, IsSolved}
+use Rattle.machine_law.specs.Prelude.{State, opening, IsQuiet, IsStateOfRun, ActiveRun, IsStateOfActiveRun, Run}
+use Rattle.machine_law.specs.Prelude.{advance, IsFlowOf, IsSolved}
 use Rattle.async_step.specs.Answers.{Fits}
 
 -- the step that is next for some block overflows: a number of the state after it doesn't fit its type

@@ -25,7 +25,8 @@ HasNoOwn board own = (b : ℕ) → ¬ (IsOwn board own b)
 -- The turn serves block b: the worker's own while its operation goes on, and else the first block at or after one,
 -- going round, that has excess and no operation.
 abbrev pub IsPicked : BoardView → Option ℕ → ℕ → ℕ → Type 0
-IsPicked board own from b = IsOwn board own b ⊎ (HasNoOwn board own × IsFirstRound (IsWaiting (shown_state board)) (blocks_of_board board) from b)
+IsPicked board own from b = IsOwn board own b
+    ⊎ (HasNoOwn board own × IsFirstRound (IsWaiting (shown_state board)) (blocks_of_board board) from b)
 
 -- there is no block to serve
 pub record IsUnserved (board : BoardView) (own : Option ℕ) : Type 0 where
@@ -105,7 +106,8 @@ OfDue old own from steps P = (b : ℕ) × IsBlockDue old own from steps b × P b
 abbrev pub IsTurnEnd : BoardView → Option ℕ → ℕ → ℕ → BoardView → End → Type 0
 IsTurnEnd old own from steps new Quiet = IsQuiet old.net (shown_state old) × (new ≡ old)
 IsTurnEnd old own from steps new Stuck = (IsStuck old × (new ≡ old)) ⊎ OfDue old own from steps (λ b. Sticks old b new)
-IsTurnEnd old own from steps new Limit = (IsAtLimit old steps ⊎ OfDue old own from steps (λ b. IsUncounted old b)) × (new ≡ old)
+IsTurnEnd old own from steps new Limit = (IsAtLimit old steps ⊎ OfDue old own from steps (λ b. IsUncounted old b))
+    × (new ≡ old)
 IsTurnEnd old own from steps new Full = ⊥
 
 -- what a turn answers, and what it leaves

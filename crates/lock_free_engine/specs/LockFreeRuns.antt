@@ -3,11 +3,12 @@ use Rattle.std.specs.Prelude.{ℕ, ◌⊎◌, List}
 use Rattle.ordered_group.specs.Amount.{AtMost}
 use Rattle.closure_net.specs.Prelude.{NetView, FlowView, holds_of, IsReached}
 use Rattle.machine_law.specs.Conservation.{all_given}
-use Rattle.word_runner.specs.Prelude.{units, IsSolvedBy, SomeCutRunIsTooLarge}
+use Rattle.word_steps.specs.Prelude.{units}
+use Rattle.word_runner.specs.Prelude.{IsSolvedBy, SomeCutRunIsTooLarge}
 use Rattle.check_pit.specs.Checks.{IsOfNet, PitFaultStands}
 use Rattle.check_pit.specs.declared.pit_fault.PitFault.TheVariants as pit_fault
-use Rattle.engines.specs.declared.solvers.Unsolved.{Unsolved}
-use Rattle.engines.specs.declared.solvers.Unsolved.TheVariants.{Unsettled, TooLarge, NoMemory, NoThread}
+use Rattle.solve_engines.specs.declared.solvers.Unsolved.{Unsolved}
+use Rattle.solve_engines.specs.declared.solvers.Unsolved.TheVariants.{Unsettled, TooLarge, NoMemory, NoThread}
 
 -- what the source gives in all is below 2^63 units, and so the net has words
 abbrev pub HasWords : NetView → Type 0
@@ -31,8 +32,8 @@ pub record LockFreeCheckOverflows (net : NetView) (workers limit : ℕ) : Type 0
 abbrev pub SomeLockFreeNumberOverflows : NetView → ℕ → ℕ → Type 0
 SomeLockFreeNumberOverflows net workers limit = SomeWordOverflows net ⊎ LockFreeCheckOverflows net workers limit
 
--- Why so many workers prove no pit in so many turns. Of what is unsettled nothing is said but that there was a run: no
--- proof speaks of how far a worker came.
+-- Why so many workers prove no pit in so many turns. Of what is unsettled nothing is said except that there was a run:
+-- no proof speaks of how far a worker came.
 abbrev pub LockFreeStands : NetView → ℕ → ℕ → Unsolved → Type 0
 LockFreeStands net workers limit Unsettled = HasWords net
 LockFreeStands net workers limit TooLarge = SomeLockFreeNumberOverflows net workers limit

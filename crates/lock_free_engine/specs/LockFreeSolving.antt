@@ -1,17 +1,19 @@
 -- How the engine of `solve` ends where a run without a lock is asked for, by the bytes of its inputs and of its output.
 use Rattle.std.specs.Prelude.{◌≡◌, ℕ, ◌⊎◌, List, Option, Result, Ok, Err}
 use Rattle.std.specs.Io.KnownBytes.{Appends, Keeps}
-use Rattle.fixed_worth.specs.Device.{ReceivedPrefix}
+use Rattle.counted_devices.specs.Device.{ReceivedPrefix}
 use Rattle.ordered_group.specs.declared.groups.Group.{Group}
 use Rattle.ordered_group.specs.declared.groups.Group.TheVariants.{Scaled}
 use Rattle.closure_net.specs.Network.{NetView}
 use Rattle.certificate_file.specs.declared.header.Price.{Price}
-use Rattle.engines.specs.declared.judgement.Verdict.{Verdict}
-use Rattle.engines.specs.declared.judgement.Verdict.TheVariants.{Done, No}
-use Rattle.mine_inputs.specs.declared.engine_fault.EngineFault.{EngineFault}
-use Rattle.mine_inputs.specs.declared.engine_fault.EngineFault.TheVariants as engine
+use Rattle.check_engines.specs.declared.judgement.Verdict.{Verdict}
+use Rattle.check_engines.specs.declared.judgement.Verdict.TheVariants.{Done, No}
+use Rattle.engine_faults.specs.declared.engine_fault.EngineFault.{EngineFault}
+use Rattle.engine_faults.specs.declared.engine_fault.EngineFault.TheVariants as engine
 use Rattle.mine_inputs.specs.Mines.{MineTexts, price_wanted}
-use Rattle.engines.specs.Prelude.{counts_by, unsettled_line, too_large_line, IsCertificateOf, IsTextOf, IsCertificate, IsNetBy, SolveFails}
+use Rattle.check_engines.specs.Prelude.{counts_by}
+use Rattle.solve_engines.specs.Prelude.{unsettled_line, too_large_line, IsCertificateOf, IsTextOf, IsCertificate}
+use Rattle.solve_engines.specs.Prelude.{IsNetBy, SolveFails}
 use Rattle.lock_free_engine.specs.LockFreeRuns.{HasWords, SomeLockFreeNumberOverflows}
 
 -- the amounts of a run without a lock
@@ -22,24 +24,30 @@ lock_free_group = Scaled
 
 -- the line of an answer without a certificate, and why it is answered
 abbrev pub IsNoWithoutLock : NetView → ℕ → ℕ → List ℕ → Type 0
-IsNoWithoutLock net workers limit text = (HasWords net × (text ≡ unsettled_line)) ⊎ (SomeLockFreeNumberOverflows net workers limit × (text ≡ too_large_line))
+IsNoWithoutLock net workers limit text = (HasWords net × (text ≡ unsettled_line))
+    ⊎ (SomeLockFreeNumberOverflows net workers limit × (text ≡ too_large_line))
 
 -- the text that answers for a net
 abbrev pub AnswersNetWithoutLock : Price → NetView → ℕ → ℕ → Verdict → List ℕ → Type 0
-AnswersNetWithoutLock price net workers limit Done text = IsCertificateOf (counts_by lock_free_group) lock_free_group price net text
+AnswersNetWithoutLock price net workers limit Done text = IsCertificateOf (counts_by lock_free_group) lock_free_group
+    price net text
 AnswersNetWithoutLock price net workers limit No text = IsNoWithoutLock net workers limit text
 
 -- a text that was to be written for a net
 abbrev pub IsDueWithoutLock : Price → NetView → ℕ → ℕ → List ℕ → Type 0
-IsDueWithoutLock price net workers limit text = IsTextOf lock_free_group price net text ⊎ IsNoWithoutLock net workers limit text
+IsDueWithoutLock price net workers limit text = IsTextOf lock_free_group price net text
+    ⊎ IsNoWithoutLock net workers limit text
 
 -- what is written with it: all of it, or nothing where memory or a thread is wanted, or a front of it where a device
 -- fails
-abbrev pub SolvesNetWithoutLock : Price → NetView → ℕ → ℕ → Option (List ℕ) → Option (List ℕ) → Result Verdict EngineFault → Type 0
-SolvesNetWithoutLock price net workers limit old new (Ok verdict) = (text : List ℕ) × AnswersNetWithoutLock price net workers limit verdict text × Appends old new text
+abbrev pub SolvesNetWithoutLock : Price → NetView → ℕ → ℕ → Option (List ℕ) → Option (List ℕ)
+    → Result Verdict EngineFault → Type 0
+SolvesNetWithoutLock price net workers limit old new (Ok verdict) = (text : List ℕ)
+    × AnswersNetWithoutLock price net workers limit verdict text × Appends old new text
 SolvesNetWithoutLock price net workers limit old new (Err engine.Memory) = Keeps old new
 SolvesNetWithoutLock price net workers limit old new (Err engine.Thread) = Keeps old new
-SolvesNetWithoutLock price net workers limit old new (Err engine.Device) = (text : List ℕ) × IsDueWithoutLock price net workers limit text × ReceivedPrefix old new text
+SolvesNetWithoutLock price net workers limit old new (Err engine.Device) = (text : List ℕ)
+    × IsDueWithoutLock price net workers limit text × ReceivedPrefix old new text
 SolvesNetWithoutLock price net workers limit old new (Err _) = ⊥
 
 -- ---- the texts of a mine
@@ -47,11 +55,14 @@ SolvesNetWithoutLock price net workers limit old new (Err _) = ⊥
 -- the text that answers for them: a certificate is one of the mine, whose flow proves its pit
 abbrev pub AnswersMineWithoutLock : MineTexts → ℕ → ℕ → Verdict → List ℕ → Type 0
 AnswersMineWithoutLock texts workers limit Done text = IsCertificate texts lock_free_group text
-AnswersMineWithoutLock texts workers limit No text = (net : NetView) × IsNetBy texts lock_free_group net × IsNoWithoutLock net workers limit text
+AnswersMineWithoutLock texts workers limit No text = (net : NetView) × IsNetBy texts lock_free_group net
+    × IsNoWithoutLock net workers limit text
 
 -- nothing was written, or a front of an answer
 abbrev pub WritesFrontWithoutLock : MineTexts → ℕ → ℕ → Option (List ℕ) → Option (List ℕ) → Type 0
-WritesFrontWithoutLock texts workers limit old new = Keeps old new ⊎ ((net : NetView) × IsNetBy texts lock_free_group net × (text : List ℕ) × IsDueWithoutLock (price_wanted texts) net workers limit text × ReceivedPrefix old new text)
+WritesFrontWithoutLock texts workers limit old new = Keeps old new
+    ⊎ ((net : NetView) × IsNetBy texts lock_free_group net × (text : List ℕ)
+    × IsDueWithoutLock (price_wanted texts) net workers limit text × ReceivedPrefix old new text)
 
 -- why a fault is answered: as under a lock, except that no board comes back as another's
 abbrev pub FailsWithoutLock : MineTexts → EngineFault → Type 0
@@ -64,6 +75,9 @@ AtFaultWithoutLock texts workers limit old new engine.Device = WritesFrontWithou
 AtFaultWithoutLock texts workers limit old new _ = Keeps old new
 
 -- the answer, and what was written with it
-abbrev pub SolvesWithoutLock : MineTexts → ℕ → ℕ → Option (List ℕ) → Option (List ℕ) → Result Verdict EngineFault → Type 0
-SolvesWithoutLock texts workers limit old new (Ok verdict) = (text : List ℕ) × AnswersMineWithoutLock texts workers limit verdict text × Appends old new text
-SolvesWithoutLock texts workers limit old new (Err fault) = FailsWithoutLock texts fault × AtFaultWithoutLock texts workers limit old new fault
+abbrev pub SolvesWithoutLock : MineTexts → ℕ → ℕ → Option (List ℕ) → Option (List ℕ) → Result Verdict EngineFault
+    → Type 0
+SolvesWithoutLock texts workers limit old new (Ok verdict) = (text : List ℕ)
+    × AnswersMineWithoutLock texts workers limit verdict text × Appends old new text
+SolvesWithoutLock texts workers limit old new (Err fault) = FailsWithoutLock texts fault
+    × AtFaultWithoutLock texts workers limit old new fault

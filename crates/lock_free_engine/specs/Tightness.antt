@@ -7,4 +7,5 @@ use Rattle.word_runner.specs.Ends.{IsSolvedBy}
 -- A run over the net with its negative worths cut leaves a flow that solves the net itself: no flow takes more from the
 -- source, and what the source reaches in what it leaves is closed, tight, and a greatest closed set.
 abbrev pub RunsAreTight : Type 0
-RunsAreTight = (net : NetView) (workers limit : ℕ) (flow : FlowView) (steps : ℕ) → IsNet net → IsSolvedBy net workers limit flow steps → IsSolved net flow
+RunsAreTight = (net : NetView) (workers limit : ℕ) (flow : FlowView) (steps : ℕ) → IsNet net
+    → IsSolvedBy net workers limit flow steps → IsSolved net flow

@@ -3,15 +3,15 @@
 
 ghost use Rattle.std.specs.Prelude.{MatchResult};
 ghost use Rattle.ordered_group.specs.Block.{scaled_worth};
-ghost use Rattle.engines.specs.Certification.{IsSolution};
+ghost use Rattle.solve_engines.specs.Certification.{IsSolution};
 ghost use Rattle.lock_free_engine.specs.LockFreeRuns.{LockFreeStands};
 
 use crate::laws;
 use crate::lock_free_effort::LockFreeEffort;
 use closure_net::Net;
-use engines::certification::{Solution, Uncertified, certified};
-use engines::solvers::Unsolved;
 use ordered_group::Scaled;
+use solve_engines::certification::{Solution, Uncertified, certified};
+use solve_engines::solvers::Unsolved;
 use std::alloc::Global;
 use std::sync::Wait;
 use std::thread::Threads;

@@ -10,12 +10,14 @@ ghost use Rattle.lock_free_engine.specs.LockFreeSolving.{SolvesWithoutLock};
 use crate::lock_free_asked::LockFreeAsked;
 use crate::lock_free_effort::LockFreeEffort;
 use crate::lock_free_run::by_lock_free_run;
+use check_engines::Verdict;
 use closure_net::{Net, laws};
-use engines::net_answer::write_answer;
-use engines::{EngineFault, MineInputs, Outcome, Verdict};
-use fixed_worth::{CountedRead, CountedWrite};
-use mine_inputs::{MineToSolve, mine_to_solve};
+use counted_devices::{CountedRead, CountedWrite};
+use engine_faults::EngineFault;
+use mine_inputs::{MineInputs, MineToSolve, mine_to_solve};
 use ordered_group::Scaled;
+use solve_engines::Outcome;
+use solve_engines::net_answer::write_answer;
 use std::alloc::Global;
 use std::sync::Wait;
 use std::thread::Threads;
@@ -24,7 +26,7 @@ use workers::Gate;
 /// Finds the best pit of a mine, where its blocks have prices at the factor that is asked for, by a run of the
 /// push-relabel machine without a lock, in amounts of the group `scaled`, and writes its certificate.
 ///
-/// `Done` where it wrote a certificate, as `engines::solve_engine` says: the check of the mine's own net has accepted
+/// `Done` where it wrote a certificate, as `solve_engine` says: the check of the mine's own net has accepted
 /// its flow. `No` where it wrote `UNSETTLED`, because the workers' turns were used up before all that the source gave
 /// had arrived, or `REFUSED TooLarge`, because a total, a flow or a label reached 2^63, or a sum of the check
 /// overflows.

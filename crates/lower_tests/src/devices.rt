@@ -3,7 +3,7 @@
 
 // Devices of the tests' own: they claim nothing of their bytes, so what they received or gave is
 // asserted as the tests run.
-use fixed_worth::{
+use counted_devices::{
     Counted, CountedRead, CountedWrite, Failing, Failure, InputFault, Page, WriteFault, read_whole,
     write_text,
 };

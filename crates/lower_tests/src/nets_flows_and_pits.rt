@@ -190,7 +190,7 @@ fn blocks_are_found_from_any_place(rt: HostRuntime) -> Result<(), Fail> {
 }
 
 #[test]
-fn a_search_leaves_the_place_behind_the_block(rt: HostRuntime) -> Result<(), Fail> {
+fn a_search_leaves_the_place_after_the_block(rt: HostRuntime) -> Result<(), Fail> {
     let pit = pit(rt.alloc(), &[1, 2, 5, 9])?;
     let mut place = 0;
     assert!(rt; pit.holds_near(&mut place, 5) && place == 3);

@@ -5,7 +5,7 @@
 ghost use Rattle.std.specs.Prelude.{◌≤◌};
 
 use crate::prec_reading::prints;
-use fixed_worth::{Counted, CountedWrite};
+use counted_devices::{Counted, CountedWrite};
 use prec_file::{PrecWriteFault, Rests, read_listed, read_prec, write_prec, write_predecessors};
 use std::alloc::Global;
 use std::io;

@@ -3,7 +3,8 @@
 
 use blocks_file::{BlockModel, Place, read_blocks};
 use prec_file::Rests;
-use slope::{Pattern, PatternFault, Selection, SlopeFault, Up, predecessors_of, rests_of};
+use slope::{SlopeFault, predecessors_of, rests_of};
+use slope_offsets::{Pattern, PatternFault, Selection, Up};
 use std::alloc::Global;
 use std::fmt::{Debug, Display};
 use std::process::Abort;

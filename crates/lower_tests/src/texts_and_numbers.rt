@@ -1,11 +1,12 @@
 //! Tries how texts are cut into lines and fields, how numbers are read or refused, and how amounts and
 //! faults are printed.
 
+use counted_devices::{InputFault, WriteFault};
 use fixed_worth::NumberFault::{NotANumber, TooLarge, TooLong};
 use fixed_worth::{
-    Field, Fields, InputFault, Lines, Micros, MicrosTotal, Nanos, NumberFault, TextFault,
-    WriteFault, WrittenNumber, behind_first, cut_at, first_line_feed, is_separator, laws,
-    plain_signed, signed_whole, trimmed_fraction, whole,
+    Field, Fields, Lines, Micros, MicrosTotal, Nanos, NumberFault, TextFault, WrittenNumber,
+    after_first_line, cut_at, first_line_feed, is_separator, laws, plain_signed, signed_whole,
+    trimmed_fraction, whole,
 };
 use std::alloc::Global;
 use std::fmt::{Debug, Display};
@@ -198,9 +199,9 @@ fn printed_device_faults(rt: HostRuntime) {
 }
 
 // A text's first line feed, and what stands after its first byte.
-fn is_cut(rt: &impl Abort, text: &[u8], end: Option<usize>, behind: &[u8]) {
+fn is_cut(rt: &impl Abort, text: &[u8], end: Option<usize>, after: &[u8]) {
     equal(rt, first_line_feed(text), end);
-    equal(rt, behind_first(text), behind);
+    equal(rt, after_first_line(text), after);
 }
 
 #[test]

@@ -1,7 +1,7 @@
 //! Tries that a run's trace is written and read back, with what faults other texts are refused, and what a failing
 //! writer leads to.
 
-use fixed_worth::{Counted, WriteFault};
+use counted_devices::{Counted, WriteFault};
 use machine_law::{Event, Kind};
 use std::alloc::Global;
 use std::io;

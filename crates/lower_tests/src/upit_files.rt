@@ -1,11 +1,13 @@
 //! Tries which names and values are read from `.upit` texts, with what faults other texts are refused, and how names
 //! and values are written.
 
-use fixed_worth::{Counted, CountedWrite, Micros, WriteFault};
+use counted_devices::{Counted, CountedWrite, WriteFault};
+use fixed_worth::Micros;
 use std::alloc::Global;
 use std::fmt::Debug;
 use std::process::Abort;
 use std::test::Fail;
+use std::thread::Threads;
 use upit_file::{Upit, UpitFault, declared_blocks, laws, read_upit, read_values, write_upit};
 
 // Fails the test where they differ. A call of it costs the proof less than the assertion in its place.
@@ -16,20 +18,26 @@ fn equal<T: PartialEq + Debug + Copy>(rt: &impl Abort, got: T, wanted: T) {
 const SAMPLE: &[u8] =
     b"% a comment\r\nNAME: a b\r\nTYPE:UPIT\r\nNBLOCKS:2\r\nCREATED: today\r\nOBJECTIVE_FUNCTION:\r\n1 -2.5e0\r\nEOF\r\nrubbish here and there";
 
-// The fault of a text for three blocks, if any.
-fn fault(alloc: Global, text: &[u8]) -> Option<UpitFault> {
-    read_upit(alloc, text, 3).err()
+// The fault of a text for three blocks, if any, which is the same where three threads read it.
+fn fault(rt: &(impl Threads + Sync + Abort), alloc: Global, text: &[u8]) -> Option<UpitFault> {
+    let alone = read_upit(rt, alloc, text, 3, Some(1)).err();
+    equal(rt, read_upit(rt, alloc, text, 3, Some(3)).err(), alone);
+    alone
 }
 
 // Each text has this fault, if any, where three blocks are asked for.
-fn have_their_faults(rt: &impl Abort, alloc: Global, rows: &[(&[u8], Option<UpitFault>)]) {
+fn have_their_faults(
+    rt: &(impl Threads + Sync + Abort),
+    alloc: Global,
+    rows: &[(&[u8], Option<UpitFault>)],
+) {
     for (text, wanted) in rows {
-        equal(rt, fault(alloc, text), *wanted);
+        equal(rt, fault(rt, alloc, text), *wanted);
     }
 }
 
-fn sample(alloc: Global) -> Result<Upit, Fail> {
-    Ok(read_upit(alloc, SAMPLE, 2).ok().ok_or("read")?)
+fn sample(rt: &(impl Threads + Sync), alloc: Global) -> Result<Upit, Fail> {
+    Ok(read_upit(rt, alloc, SAMPLE, 2, None).ok().ok_or("read")?)
 }
 
 // Whether the text of the sample tells its name and its two values.
@@ -45,14 +53,16 @@ fn tells_the_sample(upit: &Upit) -> bool {
 #[test]
 fn a_whole_text(rt: HostRuntime) -> Result<(), Fail> {
     equal(&rt, declared_blocks(SAMPLE), Ok(2));
-    let upit = sample(rt.alloc())?;
+    let upit = sample(&rt, rt.alloc())?;
     assert!(rt; tells_the_sample(&upit));
     Ok(())
 }
 
 #[test]
 fn as_many_blocks_as_a_text_declares(rt: HostRuntime) -> Result<(), Fail> {
-    let upit = read_values(rt.alloc(), SAMPLE, None).ok().ok_or("read")?;
+    let upit = read_values(&rt, rt.alloc(), SAMPLE, None, Some(4))
+        .ok()
+        .ok_or("read")?;
     assert!(rt; tells_the_sample(&upit));
     Ok(())
 }
@@ -67,7 +77,7 @@ fn two_values(values: &[Micros]) -> Option<(i64, i64)> {
 
 #[test]
 fn values_in_a_row(rt: HostRuntime) -> Result<(), Fail> {
-    let upit = sample(rt.alloc())?;
+    let upit = sample(&rt, rt.alloc())?;
     equal(&rt, two_values(upit.values()), Some((0, -2_500_000)));
     Ok(())
 }
@@ -94,8 +104,8 @@ fn headers(rt: HostRuntime) {
 }
 
 // Whether a text for no blocks has this name.
-fn has_name(alloc: Global, text: &[u8], name: &[u8]) -> bool {
-    match read_upit(alloc, text, 0) {
+fn has_name(rt: &(impl Threads + Sync), alloc: Global, text: &[u8], name: &[u8]) -> bool {
+    match read_upit(rt, alloc, text, 0, None) {
         Ok(upit) => upit.name() == name,
         Err(_) => false,
     }
@@ -112,7 +122,7 @@ fn names(rt: HostRuntime) {
         (b"NBLOCKS 0\nOBJECTIVE_FUNCTION", b""),
     ];
     for (text, name) in &rows {
-        assert!(rt; has_name(rt.alloc(), text, name));
+        assert!(rt; has_name(&rt, rt.alloc(), text, name));
     }
 }
 
@@ -229,11 +239,11 @@ fn records(rt: HostRuntime) {
 #[test]
 fn long_lines(rt: HostRuntime) -> Result<(), Fail> {
     let line = [b'%'; 65_537];
-    equal(&rt, fault(rt.alloc(), &line), Some(UpitFault::Text(1)));
+    equal(&rt, fault(&rt, rt.alloc(), &line), Some(UpitFault::Text(1)));
     equal(&rt, declared_blocks(&line), Err(UpitFault::Text(1)));
     let (short, _) = line.as_slice().split_at(65_536);
     let wanted = Some(UpitFault::NoObjective(1));
-    equal(&rt, fault(rt.alloc(), short), wanted);
+    equal(&rt, fault(&rt, rt.alloc(), short), wanted);
     Ok(())
 }
 
@@ -260,13 +270,13 @@ fn writes(rt: &impl Abort, alloc: Global, upit: &Upit, text: &[u8]) {
     assert!(rt; answer == Ok(()) && received.as_slice() == text);
 }
 
-fn written_sample(alloc: Global) -> Result<Upit, Fail> {
-    Ok(read_upit(alloc, WRITTEN, 3).ok().ok_or("read")?)
+fn written_sample(rt: &(impl Threads + Sync), alloc: Global) -> Result<Upit, Fail> {
+    Ok(read_upit(rt, alloc, WRITTEN, 3, None).ok().ok_or("read")?)
 }
 
 #[test]
 fn a_written_text(rt: HostRuntime) -> Result<(), Fail> {
-    let upit = written_sample(rt.alloc())?;
+    let upit = written_sample(&rt, rt.alloc())?;
     laws::written_is_read(&upit);
     writes(&rt, rt.alloc(), &upit, WRITTEN);
     Ok(())
@@ -275,7 +285,7 @@ fn a_written_text(rt: HostRuntime) -> Result<(), Fail> {
 // Whatever a text's spelling, what it says is written in one way.
 #[test]
 fn a_read_text_is_written_plainly(rt: HostRuntime) -> Result<(), Fail> {
-    let upit = sample(rt.alloc())?;
+    let upit = sample(&rt, rt.alloc())?;
     let plain = b"NAME: a b\nTYPE: UPIT\nNBLOCKS: 2\nOBJECTIVE_FUNCTION:\n0 0\n1 -2.5\nEOF\n";
     writes(&rt, rt.alloc(), &upit, plain);
     Ok(())
@@ -301,7 +311,7 @@ fn into_twenty(upit: &Upit) -> (Result<(), WriteFault>, u64, bool) {
 
 #[test]
 fn a_full_device(rt: HostRuntime) -> Result<(), Fail> {
-    let upit = written_sample(rt.alloc())?;
+    let upit = written_sample(&rt, rt.alloc())?;
     let wanted = (Err(WriteFault::Device), 1, true);
     equal(&rt, into_twenty(&upit), wanted);
     Ok(())

@@ -19,7 +19,8 @@ pub shifted : {x y u v : Amount} → AtMost u v → Same (minus y x) (minus v u)
 shifted h e = record { worths = omega (arith, ints, h, e); counts = λ i. omega (arith, ints, h, e, i) }
 
 -- and from two that differ by as much together
-pub joined : {x y u v p q : Amount} → AtMost u v → AtMost p q → Same (minus y x) (plus (minus v u) (minus q p)) → AtMost x y
+pub joined : {x y u v p q : Amount} → AtMost u v → AtMost p q → Same (minus y x) (plus (minus v u) (minus q p))
+    → AtMost x y
 joined h k e = record { worths = omega (arith, ints, h, k, e); counts = λ i. omega (arith, ints, h, k, e, i) }
 
 -- what is above zero stays so where it grows

@@ -1,13 +1,18 @@
 -- The flow of a quiet state is a greatest one, and what the source reaches in what it leaves is a greatest closed set.
-use Rattle.fixed_worth.proofs.Common.{◌≡◌, ◌≢◌, ℕ, ◌+◌, ◌<◌, ◌≤◌, ◌==◌, ◌⊎◌, inl, inr, Bool, true, false, nat_lt, length, ap, sym, ◌∙◌, subst, arith, ints, cases_lt, ltb-true, lt-ltb, get_or_default, common_steps}
-use Rattle.ordered_group.specs.Prelude.{Amount, zero_amount, plus, minus, AtMost, Below, positive, negative, where_so, at_end, amount_at}
+use Rattle.fixed_worth.proofs.Common.{◌≡◌, ◌≢◌, ℕ, ◌+◌, ◌<◌, ◌≤◌, ◌==◌, ◌⊎◌, inl, inr, Bool, true, false, nat_lt}
+use Rattle.fixed_worth.proofs.Common.{length, ap, sym, ◌∙◌, subst, arith, ints, cases_lt, ltb-true, lt-ltb}
+use Rattle.fixed_worth.proofs.Common.{get_or_default, common_steps}
+use Rattle.ordered_group.specs.Prelude.{Amount, zero_amount, plus, minus, AtMost, Below, positive, negative, where_so}
+use Rattle.ordered_group.specs.Prelude.{at_end, amount_at}
 use Rattle.ordered_group.proofs.Order.{AtMost-both, AtMost-same, most_or_below}
 use Rattle.ordered_group.proofs.Signs.{sign_or}
 use Rattle.ordered_group.proofs.Totals.{total-same, total-none}
 use Rattle.prec_file.specs.Rests.{from_at, to_at}
 use Rattle.closure_net.specs.Prelude.{NetView, FlowView, Stays, IsClosed, IsFlow, IsTight, IsReached, Reaches}
 use Rattle.closure_net.proofs.Duality.{PairsKnown, closed_bound, greatest_flow_from_tight}
-use Rattle.machine_law.specs.Prelude.{State, IsQuiet, room, amount_owed, on_way, sum_on_way, amount_landing, amount_coming, inflow_at, outflow_at, steep_capacity, IsLawful, IsFlowOf, IsSolved, QuietSolves}
+use Rattle.machine_law.specs.Prelude.{State, IsQuiet, room, amount_owed, on_way, sum_on_way, amount_landing}
+use Rattle.machine_law.specs.Prelude.{amount_coming, inflow_at, outflow_at, steep_capacity, IsLawful, IsFlowOf}
+use Rattle.machine_law.specs.Prelude.{IsSolved, QuietSolves}
 use Rattle.machine_law.proofs.Numbers.{same, equal, shifted}
 use Rattle.machine_law.proofs.Arcs.{arcs-each}
 use Rattle.machine_law.proofs.Law.{runs_keep_law}
@@ -29,9 +34,12 @@ not_both : (t : Bool) {P : Type 0} → t ≡ true → t ≡ false → P
 not_both t h e = grind (arith, common_steps)
 
 -- and tight, where its blocks give the sink all they may
-tight_from : (net : NetView) (flow : FlowView) (e : ℕ → Bool) → PairsKnown net → IsFlow net flow → Reaches net flow e → ((b : ℕ) → b < length net.worths → e b ≡ true → AtMost (negative (amount_at net.worths b)) (amount_at flow.sink b)) → IsTight net flow e
+tight_from : (net : NetView) (flow : FlowView) (e : ℕ → Bool) → PairsKnown net → IsFlow net flow → Reaches net flow e
+    → ((b : ℕ) → b < length net.worths → e b ≡ true
+    → AtMost (negative (amount_at net.worths b)) (amount_at flow.sink b)) → IsTight net flow e
 tight_from net flow e known is r full =
-    tight_sum (length net.worths) (length net.pairs) (from_at net.pairs) (to_at net.pairs) (amount_at net.worths) (amount_at flow.source) (amount_at flow.sink) (amount_at flow.rest) e
+    tight_sum (length net.worths) (length net.pairs) (from_at net.pairs) (to_at net.pairs) (amount_at net.worths)
+    (amount_at flow.source) (amount_at flow.sink) (amount_at flow.rest) e
     (λ k l. (known k (0, 0) l).0)
     (λ k l. (known k (0, 0) l).1)
     is.balance
@@ -43,19 +51,23 @@ tight_from net flow e known is r full =
       | inr o ↦ not_both (e (from_at net.pairs k)) (r.up k l (below_not zero_amount (amount_at flow.rest k) o) at) out
     ]) (is.rest k (omega (arith, l, f))))
     (λ b l i. AtMost-both (amount_at flow.sink b) (negative (amount_at net.worths b)) (is.capacity b l).1 (full b l i))
-    (λ b l i. AtMost-both (amount_at flow.source b) (positive (amount_at net.worths b)) (is.capacity b l).0 (elim (most_or (positive (amount_at net.worths b)) (amount_at flow.source b)) [
+    (λ b l i. AtMost-both (amount_at flow.source b) (positive (amount_at net.worths b)) (is.capacity b l).0
+    (elim (most_or (positive (amount_at net.worths b)) (amount_at flow.source b)) [
       | inl m ↦ m
       | inr o ↦ not_both (e b) (r.begins b l o) i
     ]))
 
 -- ---- the flow of a quiet state
-module _ (net : NetView) (s : State) (flow : FlowView) (known : PairsKnown net) (h : IsLawful net s) (q : IsQuiet net s) (is : IsFlowOf net s flow) where
+module _ (net : NetView) (s : State) (flow : FlowView) (known : PairsKnown net) (h : IsLawful net s)
+    (q : IsQuiet net s) (is : IsFlowOf net s flow) where
   nothing_coming : (b : ℕ) → amount_coming net s b ≡ zero_amount
   unfolding sum_on_way
-  nothing_coming b = total-none (λ c. on_way (amount_landing b) (s.operation c)) (length net.worths) (λ c l. ap (on_way (amount_landing b)) (q.operation c l))
+  nothing_coming b = total-none (λ c. on_way (amount_landing b) (s.operation c)) (length net.worths)
+      (λ c l. ap (on_way (amount_landing b)) (q.operation c l))
 
   -- what comes in and goes out is the same by either view
-  end_same : (end : ℕ → ℕ) (b : ℕ) → at_end end (amount_at flow.rest) (length net.pairs) b ≡ at_end end s.flow (length net.pairs) b
+  end_same : (end : ℕ → ℕ) (b : ℕ) → at_end end (amount_at flow.rest) (length net.pairs) b ≡ at_end end s.flow
+      (length net.pairs) b
   end_same end b = total-same _ _ (length net.pairs) (λ k l. ap (where_so (end k == b)) (is.rest k l))
 
   inflow_is : (b : ℕ) → at_end (to_at net.pairs) (amount_at flow.rest) (length net.pairs) b ≡ inflow_at net s.flow b
@@ -67,7 +79,8 @@ module _ (net : NetView) (s : State) (flow : FlowView) (known : PairsKnown net) 
   outflow_is b = end_same (from_at net.pairs) b
 
   -- what the state owes, has, and is to get is zero
-  supply_zero : (b : ℕ) → b < length net.worths → minus (plus (s.excess b) (amount_coming net s b)) (amount_owed (s.operation b)) ≡ zero_amount
+  supply_zero : (b : ℕ) → b < length net.worths
+      → minus (plus (s.excess b) (amount_coming net s b)) (amount_owed (s.operation b)) ≡ zero_amount
   supply_zero b l = grind (arith, common_steps, same, nothing_coming, equal)
 
   pub quiet_flow : IsFlow net flow
@@ -88,16 +101,20 @@ module _ (net : NetView) (s : State) (flow : FlowView) (known : PairsKnown net) 
   }
 
   -- a pair that falls by more than one label carries nothing back
-  quiet_arc : (k : ℕ) → k < length net.pairs → s.label (from_at net.pairs k) + 1 < s.label (to_at net.pairs k) → AtMost (s.flow k) zero_amount
+  quiet_arc : (k : ℕ) → k < length net.pairs → s.label (from_at net.pairs k) + 1 < s.label (to_at net.pairs k)
+      → AtMost (s.flow k) zero_amount
   quiet_arc k l far =
       let b = to_at net.pairs k in
       let m = h.labels.steep_most b in
       let z = same (supply_zero b (known k (0, 0) l).1) in
-      let a : AtMost (s.flow k) (steep_capacity net s b) = arcs-each net (λ i. nat_lt (s.label (from_at net.pairs i) + 1) (s.label b)) s.flow k l (lt-ltb (s.label (from_at net.pairs k) + 1) (s.label b) far) h.amounts.flow in
+      let a : AtMost (s.flow k) (steep_capacity net s b) = arcs-each net
+      (λ i. nat_lt (s.label (from_at net.pairs i) + 1) (s.label b)) s.flow k l
+      (lt-ltb (s.label (from_at net.pairs k) + 1) (s.label b) far) h.amounts.flow in
       record { worths = omega (arith, ints, m, z, a); counts = λ i. omega (arith, ints, m, z, a, i) }
 
   -- ---- the blocks above an empty level
-  module _ (level : ℕ) (low : 1 ≤ level) (most : level ≤ length net.worths + 1) (empty : (b : ℕ) → b < length net.worths → s.label b ≢ level) where
+  module _ (level : ℕ) (low : 1 ≤ level) (most : level ≤ length net.worths + 1)
+      (empty : (b : ℕ) → b < length net.worths → s.label b ≢ level) where
     abbrev above : ℕ → Bool
     above b = nat_lt level (s.label b)
 
@@ -121,21 +138,27 @@ module _ (net : NetView) (s : State) (flow : FlowView) (known : PairsKnown net) 
           ];
     }
 
-    above_full : (b : ℕ) → b < length net.worths → above b ≡ true → AtMost (negative (amount_at net.worths b)) (amount_at flow.sink b)
+    above_full : (b : ℕ) → b < length net.worths → above b ≡ true
+        → AtMost (negative (amount_at net.worths b)) (amount_at flow.sink b)
     above_full b l y = elim (sign_or (room net s b)) [
-      | inl m ↦ let t = same (is.sink b l) in shifted m (record { w = omega (arith, ints, t); c = omega (arith, ints, t) })
+      | inl m ↦ let t = same (is.sink b l) in shifted m
+          (record { w = omega (arith, ints, t); c = omega (arith, ints, t) })
       | inr o ↦ let a = ltb-true level (s.label b) y in let n = h.labels.sink b o in absurd (omega (arith, a, n, low))
     ]
 
     solved_by : IsSolved net flow
     solved_by =
         let f = quiet_flow in
-        let tight : (e : ℕ → Bool) → IsReached net flow e → IsTight net flow e = λ e r. tight_from net flow e known f r.0 (λ b l y. above_full b l (r.1 above above_reaches b y)) in
+        let tight : (e : ℕ → Bool) → IsReached net flow e
+        → IsTight net flow e = λ e r. tight_from net flow e known f r.0
+        (λ b l y. above_full b l (r.1 above above_reaches b y)) in
         record {
-          greatest = greatest_flow_from_tight net flow above known f (closed_from net flow above above_reaches) (tight_from net flow above known f above_reaches above_full);
+          greatest = greatest_flow_from_tight net flow above known f (closed_from net flow above above_reaches)
+              (tight_from net flow above known f above_reaches above_full);
           closed = λ e r. closed_from net flow e r.0;
           tight = tight;
-          greatest_set = λ e r. record { closed = closed_from net flow e r.0; most = λ c i. rw (tight e r) (closed_bound net flow c known f i) };
+          greatest_set = λ e r. record
+              { closed = closed_from net flow e r.0; most = λ c i. rw (tight e r) (closed_bound net flow c known f i) };
         }
 
   pub quiet_solved : IsSolved net flow

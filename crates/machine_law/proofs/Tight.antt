@@ -14,8 +14,10 @@ module _ (n m : ℕ) (from to : ℕ → ℕ) (w s t f : ℕ → Amount) (e : ℕ
     (sealed : (k : ℕ) → k < m → e (to k) ≡ true → e (from k) ≡ false → f k ≡ zero_amount)
     (full : (b : ℕ) → b < n → e b ≡ true → t b ≡ negative (w b))
     (given_out : (b : ℕ) → b < n → e b ≡ false → s b ≡ positive (w b)) where
-  block_is : (b : ℕ) → b < n → (v : Bool) → e b ≡ v → plus (where_so v (w b)) (where_so v (at_end to f m b)) ≡ plus (minus (positive (w b)) (s b)) (where_so v (at_end from f m b))
-  block_is b l false i = let c = same (given_out b l i) in equal (record { w = omega (arith, ints, c); c = omega (arith, ints, c) })
+  block_is : (b : ℕ) → b < n → (v : Bool) → e b ≡ v → plus (where_so v (w b)) (where_so v (at_end to f m b)) ≡ plus
+      (minus (positive (w b)) (s b)) (where_so v (at_end from f m b))
+  block_is b l false i = let c = same (given_out b l i) in equal
+      (record { w = omega (arith, ints, c); c = omega (arith, ints, c) })
   block_is b l true i =
       let a = same (positive-negative (w b)) in
       let c = same (full b l i) in
@@ -29,5 +31,6 @@ module _ (n m : ℕ) (from to : ℕ → ℕ) (w s t f : ℕ → Amount) (e : ℕ
       let q = same (total-plus (λ b. minus (positive (w b)) (s b)) (λ b. where_so (e b) (at_end from f m b)) n) in
       let r = same (route e to f n m to_below) in
       let u = same (route e from f n m from_below) in
-      let v = same (total-same (λ k. where_so (e (to k)) (f k)) (λ k. where_so (e (from k)) (f k)) m (λ k l. grind (arith, common_steps))) in
+      let v = same (total-same (λ k. where_so (e (to k)) (f k)) (λ k. where_so (e (from k)) (f k)) m
+      (λ k l. grind (arith, common_steps))) in
       equal (record { w = omega (arith, ints, all, p, q, r, u, v); c = omega (arith, ints, all, p, q, r, u, v) })

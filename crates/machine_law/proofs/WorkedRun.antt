@@ -2,13 +2,16 @@
 -- and the last rest on the middle one, make 140 steps, in which a push waits while others pass it, and end quiet. In
 -- the second, a block rests on two with the same label. The file stands by its last lines: what is seen after each row
 -- of a run is what the row says.
-use Rattle.std.proofs.Common.{◌≡◌, ℕ, ℤ, pos, negsuc, true, false, ◌==◌, ◌&&◌, nat_lt, Option, Some, None, List, [], ◌∷◌, map, length, refl}
+use Rattle.std.proofs.Common.{◌≡◌, ℕ, ℤ, pos, negsuc, true, false, ◌==◌, ◌&&◌, nat_lt, Option, Some, None, List, []}
+use Rattle.std.proofs.Common.{◌∷◌, map, length, refl}
 use Rattle.ordered_group.specs.Amount.{Amount}
 use Rattle.closure_net.specs.Prelude.{NetView, port_list}
 use Rattle.machine_law.specs.declared.events.Event.{Event}
 use Rattle.machine_law.specs.declared.events.Kind.{Kind}
-use Rattle.machine_law.specs.declared.events.Kind.TheVariants.{ReadExcess, ReadCapacity, ReadLabel, TakeCapacity, GiveCapacity, TakeExcess, GiveExcess, RaiseLabel}
-use Rattle.machine_law.specs.Prelude.{State, with_value_at, opening, next_kind, advance, amount_owed, amount_coming, sum_on_way, arcs, steep_capacity}
+use Rattle.machine_law.specs.declared.events.Kind.TheVariants.{ReadExcess, ReadCapacity, ReadLabel, TakeCapacity}
+use Rattle.machine_law.specs.declared.events.Kind.TheVariants.{GiveCapacity, TakeExcess, GiveExcess, RaiseLabel}
+use Rattle.machine_law.specs.Prelude.{State, with_value_at, opening, next_kind, advance, amount_owed, amount_coming}
+use Rattle.machine_law.specs.Prelude.{sum_on_way, arcs, steep_capacity}
 
 abbrev number : Kind → ℕ
 number ReadExcess = 0
@@ -29,7 +32,9 @@ net = record { pairs = (0, 1) ∷ (2, 1) ∷ []; worths = whole (pos 4) ∷ whol
 -- the state after these steps, if each is the one that is next
 abbrev follow : NetView → State → List Event → Option State
 follow over s [] = Some s
-follow over s (e ∷ es) = elim (number (next_kind over s e.block) == number e.kind && nat_lt e.block (length over.worths)) [ true ↦ follow over (advance over s e.block) es | false ↦ None ]
+follow over s (e ∷ es) = elim
+    (number (next_kind over s e.block) == number e.kind && nat_lt e.block (length over.worths))
+    [ true ↦ follow over (advance over s e.block) es | false ↦ None ]
 
 -- steps of one block, and what is seen after them
 record Row : Type 0 where
@@ -51,41 +56,62 @@ flow k b s = (s.flow k).w ∷ (s.excess b).w ∷ []
 -- labels, excesses, flows, source amounts, the sink amount of block 1, what comes to it, what block 0 owes, what is
 -- steep at 1
 abbrev half_way : State → List ℤ
-half_way s = pos (s.label 0) ∷ pos (s.label 1) ∷ pos (s.label 2) ∷ (s.excess 0).w ∷ (s.excess 1).w ∷ (s.excess 2).w ∷ (s.flow 0).w ∷ (s.flow 1).w ∷ (s.source 0).w ∷ (s.source 1).w ∷ (s.source 2).w ∷ (s.sink 1).w ∷ (amount_coming net s 1).w ∷ (amount_owed (s.operation 1)).w ∷ (amount_owed (s.operation 0)).w ∷ (steep_capacity net s 1).w ∷ pos s.steps ∷ []
+half_way s = pos (s.label 0) ∷ pos (s.label 1) ∷ pos (s.label 2) ∷ (s.excess 0).w ∷ (s.excess 1).w ∷ (s.excess 2).w
+    ∷ (s.flow 0).w ∷ (s.flow 1).w ∷ (s.source 0).w ∷ (s.source 1).w ∷ (s.source 2).w ∷ (s.sink 1).w
+    ∷ (amount_coming net s 1).w ∷ (amount_owed (s.operation 1)).w ∷ (amount_owed (s.operation 0)).w
+    ∷ (steep_capacity net s 1).w ∷ pos s.steps ∷ []
 
 -- excesses, and the amounts of the flow
 abbrev at_the_end : State → List ℤ
-at_the_end s = (s.source 2).w ∷ (s.excess 0).w ∷ (s.excess 1).w ∷ (s.excess 2).w ∷ (s.flow 0).w ∷ (s.flow 1).w ∷ (s.source 0).w ∷ (s.sink 1).w ∷ pos s.steps ∷ []
+at_the_end s = (s.source 2).w ∷ (s.excess 0).w ∷ (s.excess 1).w ∷ (s.excess 2).w ∷ (s.flow 0).w ∷ (s.flow 1).w
+    ∷ (s.source 0).w ∷ (s.sink 1).w ∷ pos s.steps ∷ []
 
 abbrev rows : List Row
 rows =
     after 0 (ReadExcess ∷ ReadLabel ∷ ReadCapacity ∷ ReadLabel ∷ RaiseLabel ∷ []) (label 0) (pos 1 ∷ [])
     ∷ after 0 (ReadExcess ∷ ReadLabel ∷ ReadCapacity ∷ ReadLabel ∷ []) (label 0) (pos 1 ∷ [])
     ∷ after 2 (ReadExcess ∷ ReadLabel ∷ ReadCapacity ∷ ReadLabel ∷ RaiseLabel ∷ []) (label 2) (pos 1 ∷ [])
-    ∷ after 2 (ReadExcess ∷ ReadLabel ∷ ReadCapacity ∷ ReadLabel ∷ GiveCapacity ∷ TakeExcess ∷ GiveExcess ∷ []) (flow 1 1) (pos 4 ∷ pos 4 ∷ [])
-    ∷ after 1 (ReadExcess ∷ ReadCapacity ∷ ReadLabel ∷ ReadCapacity ∷ ReadCapacity ∷ ReadLabel ∷ RaiseLabel ∷ []) (label 1) (pos 1 ∷ [])
-    ∷ after 1 (ReadExcess ∷ ReadCapacity ∷ ReadLabel ∷ ReadCapacity ∷ ReadCapacity ∷ ReadLabel ∷ TakeCapacity ∷ TakeExcess ∷ GiveExcess ∷ []) (λ s. (s.sink 1).w ∷ (s.excess 1).w ∷ []) (pos 1 ∷ pos 3 ∷ [])
-    ∷ after 1 (ReadExcess ∷ ReadCapacity ∷ ReadCapacity ∷ ReadCapacity ∷ ReadLabel ∷ RaiseLabel ∷ []) (label 1) (pos 2 ∷ [])
-    ∷ after 1 (ReadExcess ∷ ReadCapacity ∷ ReadCapacity ∷ ReadCapacity ∷ ReadLabel ∷ TakeCapacity ∷ TakeExcess ∷ GiveExcess ∷ []) (flow 1 2) (pos 1 ∷ pos 3 ∷ [])
+    ∷ after 2 (ReadExcess ∷ ReadLabel ∷ ReadCapacity ∷ ReadLabel ∷ GiveCapacity ∷ TakeExcess ∷ GiveExcess ∷ [])
+    (flow 1 1) (pos 4 ∷ pos 4 ∷ [])
+    ∷ after 1 (ReadExcess ∷ ReadCapacity ∷ ReadLabel ∷ ReadCapacity ∷ ReadCapacity ∷ ReadLabel ∷ RaiseLabel ∷ [])
+    (label 1) (pos 1 ∷ [])
+    ∷ after 1 (ReadExcess ∷ ReadCapacity ∷ ReadLabel ∷ ReadCapacity ∷ ReadCapacity ∷ ReadLabel ∷ TakeCapacity
+    ∷ TakeExcess ∷ GiveExcess ∷ []) (λ s. (s.sink 1).w ∷ (s.excess 1).w ∷ []) (pos 1 ∷ pos 3 ∷ [])
+    ∷ after 1 (ReadExcess ∷ ReadCapacity ∷ ReadCapacity ∷ ReadCapacity ∷ ReadLabel ∷ RaiseLabel ∷ []) (label 1)
+    (pos 2 ∷ [])
+    ∷ after 1 (ReadExcess ∷ ReadCapacity ∷ ReadCapacity ∷ ReadCapacity ∷ ReadLabel ∷ TakeCapacity ∷ TakeExcess
+    ∷ GiveExcess ∷ []) (flow 1 2) (pos 1 ∷ pos 3 ∷ [])
     ∷ after 2 (ReadExcess ∷ ReadLabel ∷ ReadCapacity ∷ ReadLabel ∷ RaiseLabel ∷ []) (label 2) (pos 3 ∷ [])
-    ∷ after 2 (ReadExcess ∷ ReadLabel ∷ ReadCapacity ∷ ReadLabel ∷ GiveCapacity ∷ TakeExcess ∷ GiveExcess ∷ []) (flow 1 1) (pos 4 ∷ pos 3 ∷ [])
-    ∷ after 1 (ReadExcess ∷ ReadCapacity ∷ ReadCapacity ∷ ReadCapacity ∷ ReadLabel ∷ RaiseLabel ∷ []) (label 1) (pos 4 ∷ [])
-    ∷ after 0 (GiveCapacity ∷ []) half_way (pos 1 ∷ pos 4 ∷ pos 3 ∷ pos 4 ∷ pos 3 ∷ pos 0 ∷ pos 4 ∷ pos 4 ∷ pos 4 ∷ pos 0 ∷ pos 4 ∷ pos 1 ∷ pos 4 ∷ pos 0 ∷ pos 4 ∷ pos 4 ∷ pos 70 ∷ [])
+    ∷ after 2 (ReadExcess ∷ ReadLabel ∷ ReadCapacity ∷ ReadLabel ∷ GiveCapacity ∷ TakeExcess ∷ GiveExcess ∷ [])
+    (flow 1 1) (pos 4 ∷ pos 3 ∷ [])
+    ∷ after 1 (ReadExcess ∷ ReadCapacity ∷ ReadCapacity ∷ ReadCapacity ∷ ReadLabel ∷ RaiseLabel ∷ []) (label 1)
+    (pos 4 ∷ [])
+    ∷ after 0 (GiveCapacity ∷ []) half_way
+    (pos 1 ∷ pos 4 ∷ pos 3 ∷ pos 4 ∷ pos 3 ∷ pos 0 ∷ pos 4 ∷ pos 4 ∷ pos 4 ∷ pos 0 ∷ pos 4 ∷ pos 1 ∷ pos 4 ∷ pos 0
+    ∷ pos 4 ∷ pos 4 ∷ pos 70 ∷ [])
     ∷ after 0 (TakeExcess ∷ GiveExcess ∷ []) (λ s. (s.excess 0).w ∷ (s.excess 1).w ∷ []) (pos 0 ∷ pos 7 ∷ [])
-    ∷ after 1 (ReadExcess ∷ ReadCapacity ∷ ReadCapacity ∷ ReadLabel ∷ ReadCapacity ∷ ReadLabel ∷ TakeCapacity ∷ TakeExcess ∷ GiveExcess ∷ []) (flow 0 0) (pos 0 ∷ pos 4 ∷ [])
+    ∷ after 1 (ReadExcess ∷ ReadCapacity ∷ ReadCapacity ∷ ReadLabel ∷ ReadCapacity ∷ ReadLabel ∷ TakeCapacity
+    ∷ TakeExcess ∷ GiveExcess ∷ []) (flow 0 0) (pos 0 ∷ pos 4 ∷ [])
     ∷ after 0 (ReadExcess ∷ ReadLabel ∷ ReadCapacity ∷ ReadLabel ∷ RaiseLabel ∷ []) (label 0) (pos 5 ∷ [])
-    ∷ after 0 (ReadExcess ∷ ReadLabel ∷ ReadCapacity ∷ ReadLabel ∷ GiveCapacity ∷ TakeExcess ∷ GiveExcess ∷ []) (flow 0 1) (pos 4 ∷ pos 7 ∷ [])
-    ∷ after 1 (ReadExcess ∷ ReadCapacity ∷ ReadCapacity ∷ ReadLabel ∷ ReadCapacity ∷ ReadLabel ∷ TakeCapacity ∷ TakeExcess ∷ GiveExcess ∷ []) (flow 1 2) (pos 0 ∷ pos 4 ∷ [])
-    ∷ after 1 (ReadExcess ∷ ReadCapacity ∷ ReadCapacity ∷ ReadLabel ∷ ReadCapacity ∷ RaiseLabel ∷ []) (label 1) (pos 6 ∷ [])
-    ∷ after 1 (ReadExcess ∷ ReadCapacity ∷ ReadCapacity ∷ ReadLabel ∷ ReadCapacity ∷ TakeCapacity ∷ TakeExcess ∷ GiveExcess ∷ []) (flow 0 0) (pos 1 ∷ pos 3 ∷ [])
+    ∷ after 0 (ReadExcess ∷ ReadLabel ∷ ReadCapacity ∷ ReadLabel ∷ GiveCapacity ∷ TakeExcess ∷ GiveExcess ∷ [])
+    (flow 0 1) (pos 4 ∷ pos 7 ∷ [])
+    ∷ after 1 (ReadExcess ∷ ReadCapacity ∷ ReadCapacity ∷ ReadLabel ∷ ReadCapacity ∷ ReadLabel ∷ TakeCapacity
+    ∷ TakeExcess ∷ GiveExcess ∷ []) (flow 1 2) (pos 0 ∷ pos 4 ∷ [])
+    ∷ after 1 (ReadExcess ∷ ReadCapacity ∷ ReadCapacity ∷ ReadLabel ∷ ReadCapacity ∷ RaiseLabel ∷ []) (label 1)
+    (pos 6 ∷ [])
+    ∷ after 1 (ReadExcess ∷ ReadCapacity ∷ ReadCapacity ∷ ReadLabel ∷ ReadCapacity ∷ TakeCapacity ∷ TakeExcess
+    ∷ GiveExcess ∷ []) (flow 0 0) (pos 1 ∷ pos 3 ∷ [])
     ∷ after 0 (ReadExcess ∷ ReadLabel ∷ ReadCapacity ∷ ReadLabel ∷ RaiseLabel ∷ []) (label 0) (pos 6 ∷ [])
-    ∷ after 0 (ReadExcess ∷ ReadLabel ∷ ReadCapacity ∷ ReadLabel ∷ TakeCapacity ∷ TakeExcess ∷ GiveExcess ∷ []) (λ s. (s.source 0).w ∷ []) (pos 1 ∷ [])
+    ∷ after 0 (ReadExcess ∷ ReadLabel ∷ ReadCapacity ∷ ReadLabel ∷ TakeCapacity ∷ TakeExcess ∷ GiveExcess ∷ [])
+    (λ s. (s.source 0).w ∷ []) (pos 1 ∷ [])
     ∷ after 2 (ReadExcess ∷ ReadLabel ∷ ReadCapacity ∷ ReadLabel ∷ RaiseLabel ∷ []) (label 2) (pos 6 ∷ [])
-    ∷ after 2 (ReadExcess ∷ ReadLabel ∷ ReadCapacity ∷ ReadLabel ∷ TakeCapacity ∷ TakeExcess ∷ GiveExcess ∷ []) at_the_end (pos 0 ∷ pos 0 ∷ pos 0 ∷ pos 0 ∷ pos 1 ∷ pos 0 ∷ pos 1 ∷ pos 1 ∷ pos 140 ∷ [])
+    ∷ after 2 (ReadExcess ∷ ReadLabel ∷ ReadCapacity ∷ ReadLabel ∷ TakeCapacity ∷ TakeExcess ∷ GiveExcess ∷ [])
+    at_the_end (pos 0 ∷ pos 0 ∷ pos 0 ∷ pos 0 ∷ pos 1 ∷ pos 0 ∷ pos 1 ∷ pos 1 ∷ pos 140 ∷ [])
     ∷ []
 
 abbrev watch : NetView → Option State → List Row → List (List ℤ)
-watch over (Some s) (r ∷ rs) = elim (follow over s (map (λ k. record { block = r.block; kind = k }) r.kinds)) [ None ↦ [] | Some t ↦ r.see t ∷ watch over (Some t) rs ]
+watch over (Some s) (r ∷ rs) = elim (follow over s (map (λ k. record { block = r.block; kind = k }) r.kinds))
+    [ None ↦ [] | Some t ↦ r.see t ∷ watch over (Some t) rs ]
 watch over _ _ = []
 
 as_worked_by_hand : watch net (Some (opening net)) rows ≡ map (λ r. r.says) rows
@@ -104,7 +130,8 @@ both_below s = (s.flow 0).w ∷ (s.flow 1).w ∷ (s.excess 1).w ∷ (s.excess 2)
 abbrev tied_rows : List Row
 tied_rows =
     after 0 (ReadExcess ∷ ReadLabel ∷ ReadLabel ∷ ReadCapacity ∷ ReadLabel ∷ RaiseLabel ∷ []) (label 0) (pos 1 ∷ [])
-    ∷ after 0 (ReadExcess ∷ ReadLabel ∷ ReadLabel ∷ ReadCapacity ∷ ReadLabel ∷ GiveCapacity ∷ TakeExcess ∷ GiveExcess ∷ []) both_below (pos 4 ∷ pos 0 ∷ pos 4 ∷ pos 0 ∷ [])
+    ∷ after 0 (ReadExcess ∷ ReadLabel ∷ ReadLabel ∷ ReadCapacity ∷ ReadLabel ∷ GiveCapacity ∷ TakeExcess ∷ GiveExcess
+    ∷ []) both_below (pos 4 ∷ pos 0 ∷ pos 4 ∷ pos 0 ∷ [])
     ∷ []
 
 first_of_two_as_low : watch two_below (Some (opening two_below)) tied_rows ≡ map (λ r. r.says) tied_rows

@@ -44,7 +44,8 @@ pub record IsHeld (s : State) (b : ℕ) (d : Amount) : Type 0 where
   pub held : AtMost d (s.excess b)
 
 -- a scan is at one of the ports, with an excess that the block still has
-pub record IsScan (net : NetView) (s : State) (b : ℕ) (have : Amount) (place : ℕ) (read : Option Amount) (best : Option (Best Amount)) : Type 0 where
+pub record IsScan (net : NetView) (s : State) (b : ℕ) (have : Amount) (place : ℕ) (read : Option Amount)
+    (best : Option (Best Amount)) : Type 0 where
   pub inside : place < length (ports net b)
   pub held : IsHeld s b have
   pub passed : IsBestIfAny net s b best

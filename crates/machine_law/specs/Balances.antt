@@ -3,7 +3,8 @@ use Rattle.std.specs.Prelude.{◌≡◌, ℕ}
 use Rattle.ordered_group.specs.Amount.{Amount, plus, minus}
 use Rattle.closure_net.specs.Network.{NetView}
 use Rattle.machine_law.specs.States.{State}
-use Rattle.machine_law.specs.Transit.{amount_owed, amount_coming, amount_coming_to_sink, amount_coming_to_source, inflow_at, outflow_at, amount_given_back, amount_drained}
+use Rattle.machine_law.specs.Transit.{amount_owed, amount_coming, amount_coming_to_sink, amount_coming_to_source}
+use Rattle.machine_law.specs.Transit.{inflow_at, outflow_at, amount_given_back, amount_drained}
 
 -- what b has of the source and over pairs, less what it gave over pairs and to the sink
 abbrev pub balance : NetView → State → ℕ → Amount

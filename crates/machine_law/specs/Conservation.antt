@@ -28,7 +28,8 @@ amount_aloft net operation = total (λ b. amount_carried (operation b)) (length 
 
 -- nothing is lost
 abbrev pub IsConserved : NetView → State → Type 0
-IsConserved net s = plus (plus (standing_excess net s.excess) (amount_aloft net s.operation)) (plus s.at_source s.at_sink) ≡ all_given net
+IsConserved net s = plus (plus (standing_excess net s.excess) (amount_aloft net s.operation))
+    (plus s.at_source s.at_sink) ≡ all_given net
 
 -- So no excess and no arrival is more than that, and all of it has arrived exactly when the state is quiet.
 pub record IsWhole (net : NetView) (s : State) : Type 0 where
@@ -40,4 +41,5 @@ pub record IsWhole (net : NetView) (s : State) : Type 0 where
 
 -- after every run, in a net whose pairs are of its blocks
 abbrev pub RunsConserve : Type 0
-RunsConserve = (net : NetView) (es : List Event) (t : State) → All (IsKnown (length net.worths)) net.pairs → Run net (opening net) es t → IsWhole net t
+RunsConserve = (net : NetView) (es : List Event) (t : State) → All (IsKnown (length net.worths)) net.pairs
+    → Run net (opening net) es t → IsWhole net t

@@ -1,7 +1,8 @@
 -- How kinds of step are printed.
 use Rattle.std.specs.Prelude.{ℕ, List, codes}
 use Rattle.machine_law.specs.declared.events.Kind.{Kind}
-use Rattle.machine_law.specs.declared.events.Kind.TheVariants.{ReadExcess, ReadCapacity, ReadLabel, TakeCapacity, GiveCapacity, TakeExcess, GiveExcess, RaiseLabel}
+use Rattle.machine_law.specs.declared.events.Kind.TheVariants.{ReadExcess, ReadCapacity, ReadLabel, TakeCapacity}
+use Rattle.machine_law.specs.declared.events.Kind.TheVariants.{GiveCapacity, TakeExcess, GiveExcess, RaiseLabel}
 
 -- The kind's name.
 abbrev pub kind_text : Kind → List ℕ

@@ -1,5 +1,6 @@
 -- What holds of the labels: no arc with capacity is steep, but for backward arcs whose capacity the block can spare.
-use Rattle.std.specs.Prelude.{◌≡◌, ℕ, ◌+◌, ◌<◌, ◌≤◌, ◌⊎◌, ◌==◌, nat_lt, Bool, true, false, not, ◌&&◌, if◌then◌else◌, Option, Some, None, List, [], drop, length}
+use Rattle.std.specs.Prelude.{◌≡◌, ℕ, ◌+◌, ◌<◌, ◌≤◌, ◌⊎◌, ◌==◌, nat_lt, Bool, true, false, not, ◌&&◌, if◌then◌else◌}
+use Rattle.std.specs.Prelude.{Option, Some, None, List, [], drop, length}
 use Rattle.std.specs.List.{list_any}
 use Rattle.ordered_group.specs.Prelude.{Amount, zero_amount, minus, AtMost, Below, positive, total, where_so, amount_at}
 use Rattle.prec_file.specs.Rests.{from_at, to_at}
@@ -35,7 +36,8 @@ label_seen (Some best) k label = label_by best.port.kind best.port.slot best.lab
 
 -- the steep bound's capacity, where the best port counts by the label that was read
 abbrev pub high_capacity : NetView → State → ℕ → Option (Best Amount) → Amount
-high_capacity net s b best = arcs net (λ k. nat_lt (label_seen best k (s.label (from_at net.pairs k)) + 1) (s.label b)) s.flow b
+high_capacity net s b best = arcs net
+    (λ k. nat_lt (label_seen best k (s.label (from_at net.pairs k)) + 1) (s.label b)) s.flow b
 
 -- whether two ports of one block are the same
 abbrev pub same_by : PortKind → PortKind → ℕ → ℕ → Bool
@@ -60,7 +62,9 @@ is_under (Some best) label = nat_lt label best.label
 -- the capacity of the backward arcs that are passed and end below the best port, or of all that are passed while there
 -- is none
 abbrev pub low_capacity : NetView → State → ℕ → List Port → Option (Best Amount) → Amount
-low_capacity net s b rest best = arcs net (λ k. not (ports_have rest (backward_port (from_at net.pairs) k)) && is_under best (s.label (from_at net.pairs k))) s.flow b
+low_capacity net s b rest best = arcs net
+    (λ k. not (ports_have rest (backward_port (from_at net.pairs) k)) && is_under best
+    (s.label (from_at net.pairs k))) s.flow b
 
 -- by the kind of port: it isn't backward, and has capacity
 abbrev pub IsOpenBy : NetView → State → ℕ → PortKind → Type 0
@@ -94,11 +98,13 @@ IsLevelIfAny net s b (Some best) = IsBestLabel net s b best
 -- at most what b will have beyond what the operation has; the steep bound holds also with the best port at the label
 -- that was read; and of the open ports that are passed none ends below the best one, nor is there any while there is no
 -- best one.
-pub record IsWalk (net : NetView) (s : State) (b : ℕ) (have : Amount) (rest : List Port) (best : Option (Best Amount)) : Type 0 where
+pub record IsWalk (net : NetView) (s : State) (b : ℕ) (have : Amount) (rest : List Port)
+    (best : Option (Best Amount)) : Type 0 where
   pub level : IsLevelIfAny net s b best
   pub low_most : AtMost (low_capacity net s b rest best) (minus (supply net s b) have)
   pub high_most : AtMost (high_capacity net s b best) (supply net s b)
-  pub passed : (p : Port) → IsPortOf net b p → IsOpenBy net s b p.kind → ports_have rest p ≡ false → IsAbove best (end_label net s p)
+  pub passed : (p : Port) → IsPortOf net b p → IsOpenBy net s b p.kind → ports_have rest p ≡ false
+      → IsAbove best (end_label net s p)
 
 -- what holds of an operation of b: a push is due where the block stands above the best port, and a raise where it
 -- doesn't

@@ -2,7 +2,8 @@
 use Rattle.std.specs.Prelude.{◌≡◌, ℕ, ◌<◌, Bool, List, length, All}
 use Rattle.ordered_group.specs.Sums.{amount_at}
 use Rattle.prec_file.specs.Rests.{IsKnown}
-use Rattle.closure_net.specs.Prelude.{NetView, FlowView, FlowFits, IsClosed, IsGreatest, IsTight, IsGreatestFlow, IsReached}
+use Rattle.closure_net.specs.Prelude.{NetView, FlowView, FlowFits, IsClosed, IsGreatest, IsTight, IsGreatestFlow}
+use Rattle.closure_net.specs.Prelude.{IsReached}
 use Rattle.machine_law.specs.declared.events.Event.{Event}
 use Rattle.machine_law.specs.States.{State, opening, IsQuiet}
 use Rattle.machine_law.specs.Steps.{Run}
@@ -23,4 +24,6 @@ pub record IsSolved (net : NetView) (flow : FlowView) : Type 0 where
 
 -- where a run ends quiet, in a net whose pairs are of its blocks, its flow solves the net
 abbrev pub QuietSolves : Type 0
-QuietSolves = (net : NetView) (es : List Event) (t : State) (flow : FlowView) → All (IsKnown (length net.worths)) net.pairs → Run net (opening net) es t → IsQuiet net t → IsFlowOf net t flow → IsSolved net flow
+QuietSolves = (net : NetView) (es : List Event) (t : State) (flow : FlowView)
+    → All (IsKnown (length net.worths)) net.pairs → Run net (opening net) es t → IsQuiet net t → IsFlowOf net t flow
+    → IsSolved net flow

@@ -28,15 +28,18 @@ after_last_port label have (Some best) = if nat_lt best.label label then PushDue
 
 -- after the port at this place of so many is passed, where the block has this label
 abbrev pub after_port : {N : Type 0} → ℕ → ℕ → N → ℕ → Option (Best N) → Operation N
-after_port count label have place best = if nat_lt (place + 1) count then Scan have (place + 1) None best else after_last_port label have best
+after_port count label have place best = if nat_lt (place + 1) count then Scan have (place + 1) None best else
+    after_last_port label have best
 
 -- after the capacity of the port at this place is read: where it is zero, the port is passed
 abbrev pub after_capacity : ℕ → ℕ → Amount → ℕ → Option (Best Amount) → Amount → Operation Amount
-after_capacity count label have place best capacity = if is_positive capacity then Scan have place (Some capacity) best else after_port count label have place best
+after_capacity count label have place best capacity = if is_positive capacity then Scan have place
+    (Some capacity) best else after_port count label have place best
 
 -- after the label beyond the port at this place is read: the port may become the best one, and it is passed
 abbrev pub after_label : {N : Type 0} → ℕ → ℕ → N → ℕ → Option (Best N) → N → Port → ℕ → Operation N
-after_label count label have place best capacity port beyond = after_port count label have place (Some (better_of best (record { port = port; capacity = capacity; label = beyond })))
+after_label count label have place best capacity port beyond = after_port count label have place
+    (Some (better_of best (record { port = port; capacity = capacity; label = beyond })))
 
 -- ---- the same as changes of an operation
 

@@ -37,8 +37,10 @@ end_label net s port = label_beyond net port.kind (s.label port.other)
 -- by the kind of port: its pair is one of the net's and has b and the other block as its ends; there is none at the
 -- sink and the source
 abbrev pub IsEnd : NetView → ℕ → PortKind → ℕ → ℕ → Type 0
-IsEnd net b Forward other slot = (slot < length net.pairs) × (from_at net.pairs slot ≡ b) × (to_at net.pairs slot ≡ other)
-IsEnd net b Backward other slot = (slot < length net.pairs) × (to_at net.pairs slot ≡ b) × (from_at net.pairs slot ≡ other)
+IsEnd net b Forward other slot = (slot < length net.pairs) × (from_at net.pairs slot ≡ b)
+    × (to_at net.pairs slot ≡ other)
+IsEnd net b Backward other slot = (slot < length net.pairs) × (to_at net.pairs slot ≡ b)
+    × (from_at net.pairs slot ≡ other)
 IsEnd net b _ other slot = (other ≡ b) × (slot ≡ 0)
 
 -- the port leads from b

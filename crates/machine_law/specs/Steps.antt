@@ -8,7 +8,8 @@ use Rattle.closure_net.specs.declared.port.PortKind.{PortKind}
 use Rattle.closure_net.specs.declared.port.PortKind.TheVariants.{Sink, Forward, Backward, Source}
 use Rattle.machine_law.specs.declared.events.Event.{Event}
 use Rattle.machine_law.specs.declared.events.Kind.{Kind}
-use Rattle.machine_law.specs.declared.events.Kind.TheVariants.{ReadExcess, ReadCapacity, ReadLabel, TakeCapacity, GiveCapacity, TakeExcess, GiveExcess, RaiseLabel}
+use Rattle.machine_law.specs.declared.events.Kind.TheVariants.{ReadExcess, ReadCapacity, ReadLabel, TakeCapacity}
+use Rattle.machine_law.specs.declared.events.Kind.TheVariants.{GiveCapacity, TakeExcess, GiveExcess, RaiseLabel}
 use Rattle.machine_law.specs.declared.operations.Best.{Best}
 use Rattle.machine_law.specs.declared.operations.Operation.{Operation}
 use Rattle.machine_law.specs.declared.operations.Operation.TheVariants.{Idle, Scan, PushDue, TakeDue, GiveDue, RaiseDue}
@@ -59,8 +60,10 @@ with_operation s b operation = record s { operation = with_value_at s.operation 
 
 -- the operation after a read at a port whose capacity isn't read: of its capacity, or of the label beyond a forward one
 abbrev pub after_look_by : NetView → State → ℕ → Amount → ℕ → Option (Best Amount) → Port → PortKind → Operation Amount
-after_look_by net s b have place best port Forward = after_label (length (ports net b)) (s.label b) have place best zero_amount port (end_label net s port)
-after_look_by net s b have place best port _ = after_capacity (length (ports net b)) (s.label b) have place best (capacity net s b port)
+after_look_by net s b have place best port Forward = after_label (length (ports net b)) (s.label b) have place best
+    zero_amount port (end_label net s port)
+after_look_by net s b have place best port _ = after_capacity (length (ports net b)) (s.label b) have place best
+    (capacity net s b port)
 
 -- the operation after a read at a place of the list of ports: none where the list has no such place
 abbrev pub after_look : NetView → State → ℕ → Amount → ℕ → Option (Best Amount) → Option Port → Operation Amount
@@ -68,9 +71,11 @@ after_look net s b have place best None = Idle
 after_look net s b have place best (Some port) = after_look_by net s b have place best port port.kind
 
 -- the operation after a read of the label beyond a port whose capacity was read
-abbrev pub after_label_at : NetView → State → ℕ → Amount → ℕ → Option (Best Amount) → Amount → Option Port → Operation Amount
+abbrev pub after_label_at : NetView → State → ℕ → Amount → ℕ → Option (Best Amount) → Amount → Option Port
+    → Operation Amount
 after_label_at net s b have place best read None = Idle
-after_label_at net s b have place best read (Some port) = after_label (length (ports net b)) (s.label b) have place best read port (end_label net s port)
+after_label_at net s b have place best read (Some port) = after_label (length (ports net b)) (s.label b) have place
+    best read port (end_label net s port)
 
 -- the amount of a push over a port of this kind: what there is, at most the capacity that was read
 abbrev pub push_amount : Amount → PortKind → Amount → Amount
@@ -79,23 +84,29 @@ push_amount have _ read = lesser_amount have read
 
 -- the capacity step of a push of d over a port of this kind
 abbrev pub after_push_by : State → ℕ → Amount → Port → PortKind → State
-after_push_by s b d port Sink = record (with_operation s b (TakeDue d port)) { sink = with_value_at s.sink b (plus (s.sink b) d) }
-after_push_by s b d port Forward = record (with_operation s b (TakeDue d port)) { flow = with_value_at s.flow port.slot (plus (s.flow port.slot) d) }
-after_push_by s b d port Backward = record (with_operation s b (TakeDue d port)) { flow = with_value_at s.flow port.slot (minus (s.flow port.slot) d) }
-after_push_by s b d port Source = record (with_operation s b (TakeDue d port)) { source = with_value_at s.source b (minus (s.source b) d) }
+after_push_by s b d port Sink = record (with_operation s b (TakeDue d port))
+    { sink = with_value_at s.sink b (plus (s.sink b) d) }
+after_push_by s b d port Forward = record (with_operation s b (TakeDue d port))
+    { flow = with_value_at s.flow port.slot (plus (s.flow port.slot) d) }
+after_push_by s b d port Backward = record (with_operation s b (TakeDue d port))
+    { flow = with_value_at s.flow port.slot (minus (s.flow port.slot) d) }
+after_push_by s b d port Source = record (with_operation s b (TakeDue d port))
+    { source = with_value_at s.source b (minus (s.source b) d) }
 
 abbrev pub after_push : State → ℕ → Amount → Port → State
 after_push s b d port = after_push_by s b d port port.kind
 
 -- d is taken out of the excess of b
 abbrev pub after_take : State → ℕ → Amount → Port → State
-after_take s b d port = record (with_operation s b (GiveDue d port)) { excess = with_value_at s.excess b (minus (s.excess b) d) }
+after_take s b d port = record (with_operation s b (GiveDue d port))
+    { excess = with_value_at s.excess b (minus (s.excess b) d) }
 
 -- d arrives over a port of this kind
 abbrev pub after_give_by : State → ℕ → Amount → Port → PortKind → State
 after_give_by s b d port Sink = record (with_operation s b Idle) { at_sink = plus s.at_sink d }
 after_give_by s b d port Source = record (with_operation s b Idle) { at_source = plus s.at_source d }
-after_give_by s b d port _ = record (with_operation s b Idle) { excess = with_value_at s.excess port.other (plus (s.excess port.other) d) }
+after_give_by s b d port _ = record (with_operation s b Idle)
+    { excess = with_value_at s.excess port.other (plus (s.excess port.other) d) }
 
 abbrev pub after_give : State → ℕ → Amount → Port → State
 after_give s b d port = after_give_by s b d port port.kind
@@ -109,9 +120,11 @@ abbrev pub advance_by : NetView → State → ℕ → Operation Amount → State
 -- ReadExcess
 advance_by net s b Idle = with_operation s b (operation_begun_with (s.excess b))
 -- ReadCapacity, or ReadLabel beyond a forward port
-advance_by net s b (Scan have place None best) = with_operation s b (after_look net s b have place best (slice_get (ports net b) place))
+advance_by net s b (Scan have place None best) = with_operation s b
+    (after_look net s b have place best (slice_get (ports net b) place))
 -- ReadLabel
-advance_by net s b (Scan have place (Some read) best) = with_operation s b (after_label_at net s b have place best read (slice_get (ports net b) place))
+advance_by net s b (Scan have place (Some read) best) = with_operation s b
+    (after_label_at net s b have place best read (slice_get (ports net b) place))
 -- TakeCapacity or GiveCapacity
 advance_by net s b (PushDue have best) = after_push s b (push_amount have best.port.kind best.capacity) best.port
 -- TakeExcess
@@ -151,7 +164,8 @@ ReadsNoZero s e = e.kind ≡ ReadExcess → ¬ (s.excess e.block ≡ zero_amount
 -- each step is one that is allowed.
 abbrev pub ActiveRun : (State → Type 0) → NetView → State → List Event → State → Type 0
 ActiveRun allowed net s [] t = t ≡ s
-ActiveRun allowed net s (e ∷ es) t = (u : State) × Step net s e u × ReadsNoZero s e × allowed u × ActiveRun allowed net u es t
+ActiveRun allowed net s (e ∷ es) t = (u : State) × Step net s e u × ReadsNoZero s e × allowed u
+    × ActiveRun allowed net u es t
 
 -- such a run from the opening leads to the state
 pub record IsStateOfActiveRun (allowed : State → Type 0) (net : NetView) (s : State) : Type 0 where

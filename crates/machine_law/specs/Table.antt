@@ -6,7 +6,8 @@ use Rattle.closure_net.specs.declared.port.Port.{Port}
 use Rattle.closure_net.specs.declared.port.PortKind.TheVariants.{Forward}
 use Rattle.machine_law.specs.declared.events.Event.{Event}
 use Rattle.machine_law.specs.declared.events.Kind.{Kind}
-use Rattle.machine_law.specs.declared.events.Kind.TheVariants.{ReadExcess, ReadCapacity, ReadLabel, TakeCapacity, GiveCapacity, TakeExcess, GiveExcess, RaiseLabel}
+use Rattle.machine_law.specs.declared.events.Kind.TheVariants.{ReadExcess, ReadCapacity, ReadLabel, TakeCapacity}
+use Rattle.machine_law.specs.declared.events.Kind.TheVariants.{GiveCapacity, TakeExcess, GiveExcess, RaiseLabel}
 use Rattle.machine_law.specs.declared.operations.Best.{Best}
 use Rattle.machine_law.specs.declared.operations.Operation.TheVariants.{Idle, Scan, PushDue, TakeDue, GiveDue, RaiseDue}
 use Rattle.machine_law.specs.States.{State}
@@ -29,7 +30,8 @@ pub record ReadsCapacity (net : NetView) (s : State) (b : ℕ) (t : State) : Typ
   pub scan : s.operation b ≡ Scan have place None best
   pub present : slice_get (ports net b) place ≡ Some port
   pub limited : port.kind ≢ Forward
-  pub after : t ≡ with_operation s b (after_capacity (length (ports net b)) (s.label b) have place best (capacity net s b port))
+  pub after : t ≡ with_operation s b
+      (after_capacity (length (ports net b)) (s.label b) have place best (capacity net s b port))
 
 -- The present port is forward, or its capacity was read; b sees the label at the other end, and passes the port, which
 -- becomes the best one if there was none or its label is less. It is recorded with the capacity that was read, a
@@ -44,7 +46,8 @@ pub record ReadsLabel (net : NetView) (s : State) (b : ℕ) (t : State) : Type 0
   pub scan : s.operation b ≡ Scan have place read best
   pub present : slice_get (ports net b) place ≡ Some port
   pub due : ((port.kind ≡ Forward) × (read ≡ None) × (recorded ≡ zero_amount)) ⊎ (read ≡ Some recorded)
-  pub after : t ≡ with_operation s b (after_label (length (ports net b)) (s.label b) have place best recorded port (end_label net s port))
+  pub after : t ≡ with_operation s b
+      (after_label (length (ports net b)) (s.label b) have place best recorded port (end_label net s port))
 
 -- a push is due, and the best port isn't forward: the flow of the pair or what b has of the source falls, or what it
 -- gave the sink rises
@@ -97,4 +100,5 @@ Makes net s b RaiseLabel t = RaisesLabel net s b t
 
 -- in a state that a run reaches, a step is a row of the table
 abbrev pub StepsAreRows : Type 0
-StepsAreRows = (net : NetView) (s : State) (e : Event) (t : State) → HasAmounts net s → Step net s e t ↔ ((e.block < length net.worths) × Makes net s e.block e.kind t)
+StepsAreRows = (net : NetView) (s : State) (e : Event) (t : State) → HasAmounts net s
+    → Step net s e t ↔ ((e.block < length net.worths) × Makes net s e.block e.kind t)

@@ -13,6 +13,26 @@
 //! - definitions of a state as functions, so that vectors as well as words shared by threads can show it;
 //! - in `laws`: each step keeps the law, nothing is lost, and a run that ends quiet leaves a maximum flow,
 //!   over amounts of any size and in any order of steps.
+//!
+//! An example: blocks 0 and 2, worth 4 each, rest on block 1, worth -1. Block 0, of label 0, makes five steps: it reads
+//! its excess, 4; the label of block 1 over its first port; at its second port the source's capacity and label; and
+//! raises its label to 1, one more than that of block 1. A state has labels, excesses, flows of the pairs, what blocks
+//! have of the source, and what block 1 gave the sink. Tried in `machine_tests/src/steps.rt`.
+//!
+//! ```rust
+//! type After = ([u64; 3], [i128; 3], [i128; 2], [i128; 3], i128);
+//!
+//! const STEPS: [(u32, &'static [Kind]); 23] = [
+//!     (0, &[RE, RL, RC, RL, RA]),
+//! ];
+//!
+//! const AFTER: [After; 23] = [
+//!     ([1, 0, 0], [4, 0, 4], [0, 0], [4, 0, 4], 0),
+//! ];
+//!
+//! same(rt, state.next_kind(net, event.block), event.kind);
+//! let saw = state.step(net, event).expect(rt, "a step");
+//! ```
 #![tactic(auto)]
 
 mod events;

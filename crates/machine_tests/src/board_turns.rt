@@ -84,7 +84,7 @@ fn an_own_block_goes_before_those_that_wait(rt: HostRuntime) {
 }
 
 #[test]
-fn an_own_block_behind_the_last_is_none(rt: HostRuntime) {
+fn an_own_block_after_the_last_is_none(rt: HostRuntime) {
     let rows = [
         (Some(3), 1, 100, begins(1)),
         (Some(u32::MAX), 3, 100, begins(0)),
@@ -94,7 +94,7 @@ fn an_own_block_behind_the_last_is_none(rt: HostRuntime) {
 }
 
 #[test]
-fn a_look_from_behind_the_last_begins_at_the_first(rt: HostRuntime) {
+fn a_look_from_after_the_last_begins_at_the_first(rt: HostRuntime) {
     let rows = [(None, u32::MAX, 100, begins(0))];
     let mut board = board_of_dear_waste(&rt, rt.alloc());
     takes(&rt, &mut board, &rows);

@@ -1,5 +1,9 @@
 -- Making the table, and one seat and two.
-use Rattle.fixed_worth.proofs.Common.{◌≡◌, ◌≢◌, ℕ, zero, suc, ◌+◌, ◌%◌, ◌<◌, ◌==◌, ◌⊎◌, inl, inr, Bool, true, false, nat_eq, if◌then◌else◌, List, [], ◌∷◌, ◌++◌, length, replicate, get_or, set, sym, refl, ap, ◌∙◌, subst, arith, length-set, true≢false, ⊎_elim, append-nil, eq-eqb, ne_eqb, get_or-append-add, get_or_append_left, get_or-replicate, length-replicate, filter-append, common_steps}
+use Rattle.fixed_worth.proofs.Common.{◌≡◌, ◌≢◌, ℕ, zero, suc, ◌+◌, ◌%◌, ◌<◌, ◌==◌, ◌⊎◌, inl, inr, Bool, true, false}
+use Rattle.fixed_worth.proofs.Common.{nat_eq, if◌then◌else◌, List, [], ◌∷◌, ◌++◌, length, replicate, get_or, set, sym}
+use Rattle.fixed_worth.proofs.Common.{refl, ap, ◌∙◌, subst, arith, length-set, true≢false, ⊎_elim, append-nil, eq-eqb}
+use Rattle.fixed_worth.proofs.Common.{ne_eqb, get_or-append-add, get_or_append_left, get_or-replicate, length-replicate}
+use Rattle.fixed_worth.proofs.Common.{filter-append, common_steps}
 use Rattle.machine_law.specs.declared.events.Event.{Event}
 use mathlib.Core.Logic.{dite}
 use native.Mathlib.Decide.{ℕ_discrete}
@@ -12,15 +16,19 @@ use Rattle.closure_net.specs.Network.{NetView}
 use Rattle.machine_law.specs.declared.operations.Operation.TheVariants.{Idle}
 use Rattle.machine_law.specs.Operations.{operation_as}
 use Rattle.machine_law.specs.States as law
-use Rattle.word_runner.specs.declared.view.View.{View}
-use Rattle.word_runner.specs.Prelude.{count, units, Cells, excess_at, label_at, source_at, room_at, flow_at, of_block, IsRuled, Sees, IsSeatsOwn, first_view, start_words, IsStart, IsMadeBy, IsSole, IsHalf, half, left_half, right_half, joined_view, spent_view}
-use Rattle.word_runner.proofs.SeatViews.{free_operation, seats_set}
-use Rattle.word_runner.proofs.Units.{units_same, by_one}
+use Rattle.word_steps.specs.declared.view.View.{View}
+use Rattle.word_steps.specs.Prelude.{count, units, Cells, excess_at, label_at, source_at, room_at, flow_at, of_block}
+use Rattle.word_steps.specs.Prelude.{IsRuled, Sees, IsSeatsOwn, first_view, start_words, IsStart, IsMadeBy, IsSole}
+use Rattle.word_steps.specs.Prelude.{IsHalf, half, left_half, right_half, joined_view, spent_view}
+use Rattle.word_steps.proofs.SeatViews.{free_operation, seats_set}
+use Rattle.word_steps.proofs.Units.{units_same, by_one}
 
 past : (xs ys : List ℕ) (n i x : ℕ) → length xs ≡ n → i ≡ n + x → get_or (xs ++ ys) i 0 ≡ get_or ys x 0
-past xs ys n i x l e = let e' : i ≡ length xs + x = omega arith in ap (λ (k : ℕ). get_or (xs ++ ys) k 0) e' ∙ get_or-append-add xs ys x 0
+past xs ys n i x l e = let e' : i ≡ length xs + x = omega arith in ap (λ (k : ℕ). get_or (xs ++ ys) k 0) e'
+    ∙ get_or-append-add xs ys x 0
 
-pub widths : (gain loss : List ℕ) (n m : ℕ) → length gain ≡ n → length loss ≡ n → length (start_words gain loss n m) ≡ 2 + n + n + n + n + m
+pub widths : (gain loss : List ℕ) (n m : ℕ) → length gain ≡ n → length loss ≡ n
+    → length (start_words gain loss n m) ≡ 2 + n + n + n + n + m
 widths gain loss n m g l = grind (arith, common_steps)
 
 module _ (net : NetView) (gain loss : List ℕ) (q : IsStart net gain loss) where
@@ -45,19 +53,33 @@ module _ (net : NetView) (gain loss : List ℕ) (q : IsStart net gain loss) wher
         wide = widths gain loss n m g lo;
         at_source = refl;
         at_sink = refl;
-        excess = λ x l. q.positive x l ∙ ap units (sym (past head one 2 (excess_at net x) x refl refl ∙ get_or_append_left gain two 0 x (omega arith)));
-        label = λ x l. sym (past head one 2 (label_at net x) (n + x) refl (omega arith) ∙ past gain two n (n + x) x g refl ∙ get_or_append_left (replicate n 0) three 0 x (omega (arith, z, l)) ∙ get_or-replicate n x 0 0 l);
-        source = λ x l. q.positive x l ∙ ap units (sym (past head one 2 (source_at net x) (n + n + x) refl (omega arith) ∙ past gain two n (n + n + x) (n + x) g (omega arith) ∙ past (replicate n 0) three n (n + x) x z refl ∙ get_or_append_left gain four 0 x (omega arith)));
-        room = λ x l. (grind (arith, common_steps)) ∙ ap units (sym (past head one 2 (room_at net x) (n + n + n + x) refl (omega arith) ∙ past gain two n (n + n + n + x) (n + n + x) g (omega arith)
-            ∙ past (replicate n 0) three n (n + n + x) (n + x) z (omega arith) ∙ past gain four n (n + x) x g refl ∙ get_or_append_left loss five 0 x (omega arith)));
-        flow = λ j l. ap units (sym (past head one 2 (flow_at net j) (n + n + n + n + j) refl (omega arith) ∙ past gain two n (n + n + n + n + j) (n + n + n + j) g (omega arith)
-            ∙ past (replicate n 0) three n (n + n + n + j) (n + n + j) z (omega arith) ∙ past gain four n (n + n + j) (n + j) g (omega arith) ∙ past loss five n (n + j) j lo refl ∙ get_or-replicate m j 0 0 l));
+        excess = λ x l. q.positive x l
+            ∙ ap units (sym (past head one 2 (excess_at net x) x refl refl
+            ∙ get_or_append_left gain two 0 x (omega arith)));
+        label = λ x l. sym (past head one 2 (label_at net x) (n + x) refl (omega arith)
+            ∙ past gain two n (n + x) x g refl ∙ get_or_append_left (replicate n 0) three 0 x (omega (arith, z, l))
+            ∙ get_or-replicate n x 0 0 l);
+        source = λ x l. q.positive x l
+            ∙ ap units (sym (past head one 2 (source_at net x) (n + n + x) refl (omega arith)
+            ∙ past gain two n (n + n + x) (n + x) g (omega arith) ∙ past (replicate n 0) three n (n + x) x z refl
+            ∙ get_or_append_left gain four 0 x (omega arith)));
+        room = λ x l. (grind (arith, common_steps))
+            ∙ ap units (sym (past head one 2 (room_at net x) (n + n + n + x) refl (omega arith)
+            ∙ past gain two n (n + n + n + x) (n + n + x) g (omega arith)
+            ∙ past (replicate n 0) three n (n + n + x) (n + x) z (omega arith) ∙ past gain four n (n + x) x g refl
+            ∙ get_or_append_left loss five 0 x (omega arith)));
+        flow = λ j l. ap units (sym (past head one 2 (flow_at net j) (n + n + n + n + j) refl (omega arith)
+            ∙ past gain two n (n + n + n + n + j) (n + n + n + j) g (omega arith)
+            ∙ past (replicate n 0) three n (n + n + n + j) (n + n + j) z (omega arith)
+            ∙ past gain four n (n + n + j) (n + j) g (omega arith) ∙ past loss five n (n + j) j lo refl
+            ∙ get_or-replicate m j 0 0 l));
       }
 
 only : (v w : View) (P : ℕ → View → Type 0) → P 0 v → (j : ℕ) → get_elem? (v ∷ []) j ≡ some w → P j w
 only v w P h j e = grind (arith, common_steps)
 
-pub begins : (key : NetView) (gain loss : List ℕ) → IsStart key gain loss → IsRuled key (opening (start_words gain loss (count key) (length key.pairs)) [] (first_view key))
+pub begins : (key : NetView) (gain loss : List ℕ) → IsStart key gain loss
+    → IsRuled key (opening (start_words gain loss (count key) (length key.pairs)) [] (first_view key))
 begins key gain loss q =
     let net = key in
     let v = first_view key in
@@ -71,19 +93,22 @@ begins key gain loss q =
       run = refl;
       made = λ j w e. only v w (λ k x. IsMadeBy net [] x) (record { own = λ b l o. refl; other = λ b l no. refl }) j e;
       cells = c;
-      seats = λ j w e. only v w (λ k x. Sees net (law.opening net) (λ _. 0) (start_words gain loss (count net) (length net.pairs)) k x) (record {
-        owns = λ b l o. refl;
-        operation = λ b l o. sym (ap (operation_as units) (free_operation v b refl));
-        label = λ b l o r. sym (get_or-replicate (count net) b 0 0 l);
-        flow = λ p l o r. let f = units_same _ _ (c.flow p l) in omega arith;
-      }) j e;
+      seats = λ j w e. only v w
+          (λ k x. Sees net (law.opening net) (λ _. 0) (start_words gain loss (count net) (length net.pairs)) k x)
+          (record {
+            owns = λ b l o. refl;
+            operation = λ b l o. sym (ap (operation_as units) (free_operation v b refl));
+            label = λ b l o r. sym (get_or-replicate (count net) b 0 0 l);
+            flow = λ p l o r. let f = units_same _ _ (c.flow p l) in omega arith;
+          }) j e;
     }
 
 -- ---- one seat and two
 pub sole_owns : (v : View) (b : ℕ) → IsSole v → IsSeatsOwn v b
 sole_owns v b s = record { live = s.live; serves = ap (λ (k : ℕ). b % k) s.workers ∙ by_one b ∙ sym s.number }
 
-at_end : {A : Type 0} (l : List A) (a b : A) (j : ℕ) → get_elem? (l ++ a ∷ []) j ≡ some b → (get_elem? l j ≡ some b) ⊎ ((j ≡ length l) × (a ≡ b))
+at_end : {A : Type 0} (l : List A) (a b : A) (j : ℕ) → get_elem? (l ++ a ∷ []) j ≡ some b → (get_elem? l j ≡ some b)
+    ⊎ ((j ≡ length l) × (a ≡ b))
 at_end [] a b zero e = inr (refl, some-injective a b e)
 at_end [] a b (suc j) e = absurd (some-ne-none b (sym e))
 at_end (x ∷ xs) a b zero e = inl e
@@ -101,13 +126,15 @@ splits key id v q s r at =
       own = λ b l o. (r.made id v at).own b l (sole_owns v b q) ∙ ap (of_block b) q.none;
       other = λ b l no. refl;
     } in
-    let half_sees : (h j : ℕ) → ((b : ℕ) → b % 2 ≡ h → owner b ≡ j) → Sees net r.machine owner s.words j (half h v) = λ h j is. record {
+    let half_sees : (h j : ℕ) → ((b : ℕ) → b % 2 ≡ h → owner b ≡ j)
+    → Sees net r.machine owner s.words j (half h v) = λ h j is. record {
       owns = λ b l o. is b o.serves;
       operation = λ b l o. mine.operation b l (sole_owns v b q);
       label = λ b l o run. mine.label b l (sole_owns v b q) run;
       flow = λ p l o run. mine.flow p l (sole_owns v (from_at net.pairs p) q) run;
     } in
-    let other : (j : ℕ) (w : View) → j ≢ id → get_elem? s.views j ≡ some w → Sees net r.machine owner s.words j w = λ j w ne e. let old = r.seats j w e in record {
+    let other : (j : ℕ) (w : View) → j ≢ id → get_elem? s.views j ≡ some w
+    → Sees net r.machine owner s.words j w = λ j w ne e. let old = r.seats j w e in record {
       owns = λ b l o. absurd (ne (sym (old.owns b l o) ∙ all b l));
       operation = old.operation;
       label = old.label;
@@ -122,33 +149,56 @@ splits key id v q s r at =
       run = r.run;
       made = λ j w e. ⊎_elim
           (λ h. seats_set Told s.views id (left_half v) (half_made 0) (λ i x ne f. r.made i x f) j w h)
-          (λ (t : (j ≡ length (set s.views id (left_half v))) × (right_half v ≡ w)). subst (λ (x : View). Told 0 x) t.1 (half_made 1))
+          (λ (t : (j ≡ length (set s.views id (left_half v))) × (right_half v ≡ w)). subst (λ (x : View). Told 0 x)
+          t.1 (half_made 1))
           (at_end (set s.views id (left_half v)) (right_half v) w j e);
       cells = r.cells;
       seats = λ j w e. ⊎_elim
-          (λ h. seats_set (λ i x. Sees net r.machine owner s.words i x) s.views id (left_half v) (half_sees 0 id (λ b z. ap (λ (c : Bool). if c then id else k) (eq-eqb (b % 2) 0 z))) other j w h)
-          (λ (t : (j ≡ length (set s.views id (left_half v))) × (right_half v ≡ w)). subst (λ (x : ℕ × View). Sees net r.machine owner s.words x.0 x.1) (λ i. (sym (t.0 ∙ length-set s.views id (left_half v)) i, t.1 i))
+          (λ h. seats_set (λ i x. Sees net r.machine owner s.words i x) s.views id (left_half v)
+          (half_sees 0 id (λ b z. ap (λ (c : Bool). if c then id else k) (eq-eqb (b % 2) 0 z))) other j w h)
+          (λ (t : (j ≡ length (set s.views id (left_half v))) × (right_half v ≡ w)). subst
+          (λ (x : ℕ × View). Sees net r.machine owner s.words x.0 x.1)
+          (λ i. (sym (t.0 ∙ length-set s.views id (left_half v)) i, t.1 i))
           (half_sees 1 k (λ b z. ap (λ (c : Bool). if c then id else k) (ne_eqb (b % 2) 0 (λ f. omega arith)))))
           (at_end (set s.views id (left_half v)) (right_half v) w j e);
     }
 
-pub joins : (key : NetView) (id o : ℕ) (v w : View) → IsHalf 0 v → IsHalf 1 w → Joins (IsRuled key) id v o w (joined_view v w) spent_view
+pub joins : (key : NetView) (id o : ℕ) (v w : View) → IsHalf 0 v → IsHalf 1 w
+    → Joins (IsRuled key) id v o w (joined_view v w) spent_view
 joins key id o v w q p s r at ne at' =
     let net = key in
     let mine = r.seats id v at in
     let both = joined_view v w in
     let views = set s.views id both in
-    let there : get_elem? s.views o ≡ some w = ⊎_elim (λ (t : (o ≡ id) × (both ≡ w)). absurd (ne t.0)) (λ (t : (o ≢ id) × (get_elem? s.views o ≡ some w)). t.1) (at_set s.views id o both w at') in
+    let there : get_elem? s.views o ≡ some w = ⊎_elim (λ (t : (o ≡ id) × (both ≡ w)). absurd (ne t.0))
+    (λ (t : (o ≢ id) × (get_elem? s.views o ≡ some w)). t.1) (at_set s.views id o both w at') in
     let yours = r.seats o w there in
-    let even : (b : ℕ) → b % 2 ≡ 0 → IsSeatsOwn v b = λ b z. record { live = q.live; serves = ap (λ (k : ℕ). b % k) q.workers ∙ z ∙ sym q.number } in
-    let odd : (b : ℕ) → b % 2 ≡ 1 → IsSeatsOwn w b = λ b z. record { live = p.live; serves = ap (λ (k : ℕ). b % k) p.workers ∙ z ∙ sym p.number } in
+    let even : (b : ℕ) → b % 2 ≡ 0
+    → IsSeatsOwn v b = λ b z. record {
+      live = q.live;
+      serves = ap (λ (k : ℕ). b % k) q.workers ∙ z
+          ∙ sym q.number;
+    } in
+    let odd : (b : ℕ) → b % 2 ≡ 1
+    → IsSeatsOwn w b = λ b z. record {
+      live = p.live;
+      serves = ap (λ (k : ℕ). b % k) p.workers ∙ z
+          ∙ sym p.number;
+    } in
     let idle : (b : ℕ) → b < count net → r.machine.operation b ≡ Idle = λ b l. dite (ℕ_discrete (b % 2) 0)
     (λ z. mine.operation b l (even b z) ∙ ap (operation_as units) (free_operation v b q.free))
     (λ z. yours.operation b l (odd b (omega arith)) ∙ ap (operation_as units) (free_operation w b p.free)) in
     let Told : ℕ → View → Type 0 = λ j x. IsMadeBy net r.events x in
-    let both_made : (b : ℕ) → b < count net → of_block b r.events ≡ of_block b (v.made ++ w.made) = λ b l. dite (ℕ_discrete (b % 2) 0)
-    (λ z. (r.made id v at).own b l (even b z) ∙ sym (append-nil (of_block b v.made)) ∙ ap (λ (x : List Event). of_block b v.made ++ x) (sym ((r.made o w there).other b l (λ h. not_odd b z (h.serves) p.workers p.number))) ∙ sym (of_both b v.made w.made))
-    (λ z. (r.made o w there).own b l (odd b (omega (arith, z))) ∙ ap (λ (x : List Event). x ++ of_block b w.made) (sym ((r.made id v at).other b l (λ h. not_even b z (h.serves) q.workers q.number))) ∙ sym (of_both b v.made w.made)) in
+    let both_made : (b : ℕ) → b < count net → of_block b r.events ≡ of_block b (v.made ++ w.made) = λ b l. dite
+    (ℕ_discrete (b % 2) 0)
+    (λ z. (r.made id v at).own b l (even b z) ∙ sym (append-nil (of_block b v.made))
+    ∙ ap (λ (x : List Event). of_block b v.made ++ x)
+    (sym ((r.made o w there).other b l (λ h. not_odd b z (h.serves) p.workers p.number)))
+    ∙ sym (of_both b v.made w.made))
+    (λ z. (r.made o w there).own b l (odd b (omega (arith, z)))
+    ∙ ap (λ (x : List Event). x ++ of_block b w.made)
+    (sym ((r.made id v at).other b l (λ h. not_even b z (h.serves) q.workers q.number)))
+    ∙ sym (of_both b v.made w.made)) in
     let owner : ℕ → ℕ = λ _. id in
     record {
       events = r.events;
@@ -158,18 +208,31 @@ joins key id o v w q p s r at ne at' =
       small = r.small;
       run = r.run;
       made = seats_set Told views o spent_view (record { own = λ b l h. absurd (dead h.live); other = λ b l no. refl })
-          (λ j x ne e. seats_set Told s.views id both (record { own = λ b l h. both_made b l; other = λ b l no. absurd (no (record { live = q.live; serves = by_one b })) }) (λ k y nk f. r.made k y f) j x e);
+          (λ j x ne e. seats_set Told s.views id both
+          (record {
+            own = λ b l h. both_made b l;
+            other = λ b l no. absurd
+                (no (record { live = q.live; serves = by_one b }));
+          }) (λ k y nk f. r.made k y f) j x e);
       cells = r.cells;
       seats = seats_set (λ i x. Sees net r.machine owner s.words i x) views o spent_view
-          (record { owns = λ b l h. absurd (dead h.live); operation = λ b l h. absurd (dead h.live); label = λ b l h run. absurd (dead h.live); flow = λ b l h run. absurd (dead h.live) })
+          (record {
+            owns = λ b l h. absurd (dead h.live);
+            operation = λ b l h. absurd (dead h.live);
+            label = λ b l h
+                run. absurd (dead h.live);
+            flow = λ b l h run. absurd (dead h.live);
+          })
           (λ j x nj e. ⊎_elim
-          (λ (t : (j ≡ id) × (both ≡ x)). subst (λ (y : ℕ × View). Sees net r.machine owner s.words y.0 y.1) (λ i. (sym t.0 i, t.1 i)) (record {
+          (λ (t : (j ≡ id) × (both ≡ x)). subst (λ (y : ℕ × View). Sees net r.machine owner s.words y.0 y.1)
+          (λ i. (sym t.0 i, t.1 i)) (record {
             owns = λ b l h. refl;
             operation = λ b l h. idle b l ∙ sym (ap (operation_as units) (free_operation both b q.free));
             label = λ b l h run. absurd (dead (sym run));
             flow = λ b l h run. absurd (dead (sym run));
           }))
-          (λ (t : (j ≢ id) × (get_elem? s.views j ≡ some x)). let old = r.seats j x t.1 in let none_own : (b : ℕ) → b < count net → IsSeatsOwn x b → ⊥ = λ b l h. dite (ℕ_discrete (b % 2) 0)
+          (λ (t : (j ≢ id) × (get_elem? s.views j ≡ some x)). let old = r.seats j x t.1 in let none_own : (b : ℕ)
+          → b < count net → IsSeatsOwn x b → ⊥ = λ b l h. dite (ℕ_discrete (b % 2) 0)
           (λ z. t.0 (sym (old.owns b l h) ∙ mine.owns b l (even b z)))
           (λ z. nj (sym (old.owns b l h) ∙ yours.owns b l (odd b (omega arith)))) in record {
             owns = λ b l h. absurd (none_own b l h);

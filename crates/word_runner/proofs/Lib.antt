@@ -1,10 +1,3 @@
-pub mod Units
-pub mod Cells
-pub mod Shows
-pub mod Writes
-pub mod SeatViews
-pub mod KeepsRule
-pub mod Calls
 pub mod Told
 pub mod Begins
 pub mod Settles

@@ -4,7 +4,7 @@ use Rattle.ordered_group.specs.declared.scaled.Scaled.{Scaled}
 use Rattle.ordered_group.specs.Prelude.{Amount, AtMost, minus, positive, negative, amount_at}
 use Rattle.closure_net.specs.Network.{NetView}
 use Rattle.machine_law.specs.Conservation.{all_given}
-use Rattle.word_runner.specs.Layout.{units, room_at, count}
+use Rattle.word_steps.specs.Layout.{units, room_at, count}
 
 -- what the positive worths are in units, and their sum
 pub record AreGains (net : NetView) (gain : List ℕ) (sum : ℕ) : Type 0 where
@@ -31,12 +31,14 @@ pub record AreUnits (ws : List ℕ) (from size : ℕ) (amounts : List Amount) : 
 
 -- no block's room at the sink is more than it may give there
 abbrev pub AreRooms : NetView → List ℕ → Type 0
-AreRooms net ws = (b : ℕ) → b < count net → AtMost (units (slice_index ws (room_at net b))) (negative (amount_at net.worths b))
+AreRooms net ws = (b : ℕ) → b < count net
+    → AtMost (units (slice_index ws (room_at net b))) (negative (amount_at net.worths b))
 
 -- the amounts are what the net's blocks gave the sink, where their rooms are the words from this one on
 pub record AreSinks (net : NetView) (ws : List ℕ) (amounts : List Amount) : Type 0 where
   pub size_is : length amounts ≡ count net
-  pub each : (b : ℕ) → b < count net → amount_at amounts b ≡ minus (negative (amount_at net.worths b)) (units (slice_index ws (room_at net b)))
+  pub each : (b : ℕ) → b < count net → amount_at amounts b ≡ minus (negative (amount_at net.worths b))
+      (units (slice_index ws (room_at net b)))
 
 -- the net with these worths
 abbrev pub net_with_worths : NetView → List Amount → NetView
@@ -48,7 +50,8 @@ pub record IsCut (net : NetView) (ws : List Amount) : Type 0 where
   pub size : length ws ≡ count net
   pub positives : (b : ℕ) → b < count net → positive (amount_at ws b) ≡ positive (amount_at net.worths b)
   pub less : (b : ℕ) → b < count net → AtMost (negative (amount_at ws b)) (negative (amount_at net.worths b))
-  pub fits : (b : ℕ) (x : Amount) → b < count net → AtMost x (negative (amount_at net.worths b)) → AtMost x (all_given net) → AtMost x (negative (amount_at ws b))
+  pub fits : (b : ℕ) (x : Amount) → b < count net → AtMost x (negative (amount_at net.worths b))
+      → AtMost x (all_given net) → AtMost x (negative (amount_at ws b))
 
 -- c is w, or takes k from the sink where w takes more
 pub record IsCutWorth (w : Amount) (k : ℕ) (c : Amount) : Type 0 where

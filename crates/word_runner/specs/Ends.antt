@@ -11,8 +11,7 @@ use Rattle.word_runner.specs.declared.settle_fault.SettleFault.TheVariants as un
 use Rattle.workers.specs.declared.solving.SolveFault.{SolveFault}
 use Rattle.workers.specs.declared.solving.SolveFault.TheVariants as solve
 use Rattle.machine_law.specs.declared.events.Event.{Event}
-use Rattle.word_runner.specs.Layout.{units}
-use Rattle.word_runner.specs.Turns.{SomeFlowIsTooLarge, SomeLabelIsTooLarge}
+use Rattle.word_steps.specs.Prelude.{units, SomeFlowIsTooLarge, SomeLabelIsTooLarge}
 use Rattle.word_runner.specs.CutNets.{IsCutNet}
 use Rattle.word_runner.specs.Openings.{AreNeitherOneNorTwo}
 use Rattle.word_runner.specs.Runs.{IsQuietRunOf, IsOpenRunOf, IsGreatestUncut}
@@ -66,11 +65,14 @@ pub record SomeCutRunIsTooLarge (net : NetView) : Type 0 where
 -- why a whole run gives no flow
 abbrev pub WordSolveFaultStands : NetView → ℕ → SolveFault → Type 0
 WordSolveFaultStands net workers solve.BadWorkers = AreNeitherOneNorTwo workers
-WordSolveFaultStands net workers solve.Unsettled = ¬ (AreNeitherOneNorTwo workers) × AtMost (all_given net) (units 9223372036854775807)
-WordSolveFaultStands net workers solve.TooLarge = ¬ (AreNeitherOneNorTwo workers) × (AtMost (units 9223372036854775808) (all_given net) ⊎ SomeCutRunIsTooLarge net)
+WordSolveFaultStands net workers solve.Unsettled = ¬ (AreNeitherOneNorTwo workers)
+    × AtMost (all_given net) (units 9223372036854775807)
+WordSolveFaultStands net workers solve.TooLarge = ¬ (AreNeitherOneNorTwo workers)
+    × (AtMost (units 9223372036854775808) (all_given net) ⊎ SomeCutRunIsTooLarge net)
 WordSolveFaultStands net workers solve.StrangerNet = ⊥
 WordSolveFaultStands net workers solve.NoMemory = ¬ (AreNeitherOneNorTwo workers)
-WordSolveFaultStands net workers solve.NoThread = ¬ (AreNeitherOneNorTwo workers) × AtMost (all_given net) (units 9223372036854775807)
+WordSolveFaultStands net workers solve.NoThread = ¬ (AreNeitherOneNorTwo workers)
+    × AtMost (all_given net) (units 9223372036854775807)
 
 -- the faults of words as faults of a run
 abbrev pub solve_fault : WordsFault → SolveFault

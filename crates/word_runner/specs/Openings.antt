@@ -9,7 +9,7 @@ use Rattle.word_runner.specs.declared.words_fault.WordsFault.{WordsFault}
 use Rattle.word_runner.specs.declared.words_fault.WordsFault.TheVariants as fault
 use mathlib.Core.Option.{some}
 use lib.ListN.{get_elem?}
-use Rattle.word_runner.specs.Layout.{units}
+use Rattle.word_steps.specs.Layout.{units}
 use Rattle.word_runner.specs.Seats.{WordsView, Own, IsServing}
 use Rattle.word_runner.specs.CutNets.{AreWithin, IsCutNet}
 
@@ -56,5 +56,6 @@ OpeningFaultStands net fault.NoMemory = Unit {0}
 -- why there are none for so many
 abbrev pub WordsFaultStands : NetView → ℕ → WordsFault → Type 0
 WordsFaultStands net workers fault.BadWorkers = AreNeitherOneNorTwo workers
-WordsFaultStands net workers fault.TooLarge = ¬ (AreNeitherOneNorTwo workers) × AtMost (units 9223372036854775808) (all_given net)
+WordsFaultStands net workers fault.TooLarge = ¬ (AreNeitherOneNorTwo workers)
+    × AtMost (units 9223372036854775808) (all_given net)
 WordsFaultStands net workers fault.NoMemory = ¬ (AreNeitherOneNorTwo workers)

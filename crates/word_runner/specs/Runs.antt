@@ -9,8 +9,7 @@ use Rattle.machine_law.specs.Prelude.{opening, IsQuiet, Run, IsFlowOf}
 use Rattle.machine_law.specs.declared.events.Event.{Event}
 use mathlib.Core.Option.{some}
 use lib.ListN.{get_elem?}
-use Rattle.word_runner.specs.Layout.{count}
-use Rattle.word_runner.specs.Views.{of_block}
+use Rattle.word_steps.specs.Prelude.{count, of_block}
 use Rattle.word_runner.specs.Seats.{WordsView, Own, IsServing, IsServed}
 use Rattle.word_runner.specs.CutNets.{IsCutNet}
 

@@ -2,7 +2,7 @@
 //! positive worths sum to too much.
 
 ghost use Rattle.std.specs.Prelude.{◌≡◌, ◌<◌, ◌⊎◌, ◌<ℤ◌, ◌≤ℤ◌, ◌^◌, MatchOption, MatchResult, IfOk, pos};
-ghost use Rattle.word_runner.specs.Layout.{units};
+ghost use Rattle.word_steps.specs.Layout.{units};
 ghost use Rattle.word_runner.specs.CutNets.{AreGains, AreLosses, AreWithin};
 ghost use Rattle.word_runner.specs.Openings.{OpeningFaultStands};
 

@@ -3,7 +3,7 @@
 
 ghost use Rattle.std.specs.Prelude.{◌≡◌, ◌-ℤ◌, ◌<◌, ◌^◌, pos, map, IfOk};
 ghost use Rattle.machine_law.specs.Conservation.{all_given};
-ghost use Rattle.word_runner.specs.Layout.{units};
+ghost use Rattle.word_steps.specs.Layout.{units};
 ghost use Rattle.word_runner.specs.CutNets.{scaled_parts, IsCutWorth, AreCut, IsCutNet, AreWithin};
 
 use closure_net::Net;

@@ -2,7 +2,7 @@
 
 ghost use Rattle.std.specs.Prelude.{pos, ◌≡◌, ◌+◌, ◌-ℤ◌, ◌≤ℤ◌, ◌≤◌, map, IfOk};
 ghost use Rattle.std.specs.Mem.Slots.{slots_items, slots_len, IsFull};
-ghost use Rattle.word_runner.specs.Layout.{width, room_at};
+ghost use Rattle.word_steps.specs.Layout.{width, room_at};
 ghost use Rattle.word_runner.specs.Seats.{IsFlowOfWords};
 ghost use Rattle.word_runner.specs.CutNets.{scaled_parts, AreUnits, AreRooms, AreSinks};
 

@@ -3,16 +3,16 @@
 ghost use Rattle.std.specs.Prelude.{◌≡◌, ◌≤◌, ◌^◌, length};
 ghost use Rattle.word_runner.specs.Seats.{WordsView, IsWords};
 
-use crate::table::WordTable;
 use closure_net::Net;
 use ordered_group::Scaled;
 use std::marker::Model;
+use word_steps::WordTable;
 
 /// The state of the machine in words that one or two seats share without a lock.
 #[derive(Drop)]
 pub struct Words {
     pub(crate) table: WordTable,
-    // the net that was handed in, but that a negative worth takes no more than the total
+    // the net that was handed in, except that a negative worth takes no more than the total
     pub(crate) net: Net<Scaled>,
     // what the source gives in all, in units
     pub(crate) total: u64,

@@ -2,21 +2,20 @@
 //! private data.
 
 ghost use Rattle.std.specs.Prelude.{◌≡◌, ◌<◌, IfOk, MatchResult};
-ghost use Rattle.word_runner.specs.Views.{start_words};
+ghost use Rattle.word_steps.specs.Views.{start_words};
 ghost use Rattle.word_runner.specs.CutNets.{AreGains};
 ghost use Rattle.word_runner.specs.Openings.{IsFirst, AreFirst, IsBegun, AreOpenedSeats, OpeningFaultStands, WordsFaultStands};
 
 use crate::amounts::{gains, losses};
 use crate::cutting::cut_net;
 use crate::net_words::Words;
-use crate::plays::Halves;
 use crate::seats::WordSeat;
-use crate::table::WordTable;
 use crate::words_fault::WordsFault;
 use closure_net::Net;
 use machine_law::Operation;
 use ordered_group::Scaled;
 use std::alloc::{AllocError, Global};
+use word_steps::{Halves, WordTable};
 
 // The words of the opening.
 fn first_words(

@@ -4,21 +4,20 @@
 ghost use Rattle.std.specs.Prelude.{◌≡◌, ◌<◌, ◌⊎◌, ◌^◌, length};
 ghost use Rattle.machine_law.specs.declared.operations.Operation.TheVariants.{Idle};
 ghost use Rattle.machine_law.specs.Operations.{is_idle as is_free};
-ghost use Rattle.word_runner.specs.Views.{IsSeatsOwn};
-ghost use Rattle.word_runner.specs.Turns.{labels_after, RaisesTooFar};
-ghost use Rattle.word_runner.specs.Seats.{IsSeat, IsNextAt, HasTurned, HasLoaded, HasArrived, IsSame, IsTold, IsWordTurn};
+ghost use Rattle.word_steps.specs.Views.{IsSeatsOwn};
+ghost use Rattle.word_steps.specs.Turns.{labels_after, RaisesTooFar};
+ghost use Rattle.word_steps.specs.SeatSteps.{IsSeat, IsNextAt, HasTurned, IsSame};
+ghost use Rattle.word_runner.specs.Seats.{HasLoaded, HasArrived, IsTold, IsWordTurn};
 
-use crate::choices::{after, push_units};
-use crate::layout::next_word;
 use crate::net_words::Words;
-use crate::next_step::{is_idle, is_overfull, next_kind, raises_too_far};
-use crate::plays::LookedUp;
-use crate::steps::{add_next, load_next, store_next, subtract_next};
-use crate::table::{SharedWords, TableSeat};
 use crate::turns::WordTurn;
 use closure_net::PortKind;
 use machine_law::{Event, Operation};
 use std::marker::Model;
+use word_steps::{
+    LookedUp, SharedWords, TableSeat, add_next, after, is_idle, is_overfull, load_next, next_kind,
+    next_word, push_units, raises_too_far, store_next, subtract_next,
+};
 
 /// A worker's seat at the words of a net. It serves the blocks b with b mod workers = its number, one operation at a
 /// time.
@@ -38,7 +37,13 @@ impl Model for WordSeat {
 
     ghost Value = { Own };
 
-    ghost view = { λ s. record { place = s.place; labels = s.labels.items; block = s.block; operation = s.operation; stopped = s.stopped } };
+    ghost view = { λ s. record {
+      place = s.place;
+      labels = s.labels.items;
+      block = s.block;
+      operation = s.operation;
+      stopped = s.stopped;
+    } };
 
     ghost invariant = { λ s. IsTold s.place s.labels.items s.block s.operation s.stopped };
 }

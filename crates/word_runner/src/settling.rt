@@ -4,20 +4,20 @@
 ghost use Rattle.std.specs.Prelude.{◌≡◌, ◌+◌, ◌≤◌, ◌⊎◌, slice_index, ◌++◌, IsTrue, ◌↔◌, MatchOption, MatchResult};
 ghost use Rattle.std.specs.Mem.Slots.{slots_items, slots_len, IsFull};
 ghost use Rattle.machine_law.specs.declared.operations.Operation.TheVariants.{Idle};
-ghost use Rattle.word_runner.specs.Seats.{IsSeat, IsWorker, IsServed};
+ghost use Rattle.word_steps.specs.SeatSteps.{IsSeat};
+ghost use Rattle.word_runner.specs.Seats.{IsWorker, IsServed};
 ghost use Rattle.word_runner.specs.Runs.{AreSeats, IsRunSettled, SettleFaultStands};
 ghost use Rattle.word_runner.specs.Ends.{IsQuietEnd, CloseFaultStands, EndFaultStands};
 
 use crate::flows::flow_of;
 use crate::net_words::Words;
-use crate::plays::Whole;
 use crate::seats::WordSeat;
 use crate::settle_fault::SettleFault;
-use crate::table::TableSeat;
 use atomic_table::Closed;
 use closure_net::Flow;
 use ordered_group::Scaled;
 use std::alloc::Global;
+use word_steps::{TableSeat, Whole};
 
 // Whether what has arrived at the source and at the sink is the total.
 fn has_arrived(closed: &Closed<(), Global>, total: u64) -> bool

@@ -10,7 +10,8 @@ use Rattle.boards.specs.Prelude.{SomeNextOverflows, AreTurnsTo, IsReplayedTo, sh
 use Rattle.workers.specs.Runs.{most_steps, Settles}
 use Rattle.workers.specs.Solving.{AreBadWorkers}
 use Rattle.workers.specs.declared.solving.SolveFault.{SolveFault}
-use Rattle.workers.specs.declared.solving.SolveFault.TheVariants.{BadWorkers, Unsettled, TooLarge, StrangerNet, NoMemory, NoThread}
+use Rattle.workers.specs.declared.solving.SolveFault.TheVariants.{BadWorkers, Unsettled, TooLarge, StrangerNet}
+use Rattle.workers.specs.declared.solving.SolveFault.TheVariants.{NoMemory, NoThread}
 use Rattle.workers.specs.declared.auditing.AuditEnd.{AuditEnd}
 use Rattle.workers.specs.declared.auditing.AuditEnd.TheVariants.{NoFlow, HistoryFull}
 

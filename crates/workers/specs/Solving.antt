@@ -4,7 +4,8 @@ use Rattle.closure_net.specs.Network.{NetView}
 use Rattle.boards.specs.Boards.{BoardView, shown_state}
 use Rattle.workers.specs.Runs.{most_steps, IsCutOff, SomeStepOverflows}
 use Rattle.workers.specs.declared.solving.SolveFault.{SolveFault}
-use Rattle.workers.specs.declared.solving.SolveFault.TheVariants.{BadWorkers, Unsettled, TooLarge, StrangerNet, NoMemory, NoThread}
+use Rattle.workers.specs.declared.solving.SolveFault.TheVariants.{BadWorkers, Unsettled, TooLarge, StrangerNet}
+use Rattle.workers.specs.declared.solving.SolveFault.TheVariants.{NoMemory, NoThread}
 use Rattle.workers.specs.declared.solving.TheConstants.{MOST_WORKERS}
 
 -- the number of workers is wrong

@@ -14,6 +14,22 @@
 //! No proof speaks of time: that workers run at once, and that a run ends settled, is shown by tests. A
 //! call that may wait meets any promise by never returning, so what is promised here holds where the
 //! call returns.
+//!
+//! An example: one block is worth 5. With at most 9 steps [`solve`] by one worker answers `Unsettled`, and with 10 it
+//! gives a flow that takes nothing from the source. Tried in `machine_tests/src/known_runs.rt`; runs of 1 to 64
+//! workers, in `machine_tests/src/whole_runs.rt`.
+//!
+//! ```rust
+//! same(rt, ran.steps, 10);
+//! let none = WorthSize { nanos: 0, size: 0 };
+//! holds(rt, carry(ran.flow.source(), &[none]));
+//!
+//! let net: Net<WorthSize> = net_of(&rt, alloc, 1, &[], &[5_000_000_000]);
+//! let fault = solve(&rt, alloc, &net, 1, 9, &OpenGate).err();
+//! same(&rt, fault, Some(SolveFault::Unsettled));
+//! let ran = solve(&rt, alloc, &net, 1, 10, &OpenGate).expect(&rt, "run");
+//! took_nothing_in_ten(&rt, &ran);
+//! ```
 #![tactic(auto)]
 
 mod auditing;

@@ -4,4 +4,5 @@ use Rattle.async_step.proofs.Changes.{IsMarkedUpTo}
 use Rattle.async_step.proofs.opening.busy_marks.Given as goal
 
 abbrev pub invariant-loop-b : goal.invariant-loop-b
-invariant-loop-b g l = IsMarkedUpTo (λ b. not (is_zero (amount_at (map g.G.OrderedGroup.parts_of l.fn.excess) b))) (length l.fn.excess) l.marks l.b
+invariant-loop-b g l = IsMarkedUpTo (λ b. not (is_zero (amount_at (map g.G.OrderedGroup.parts_of l.fn.excess) b)))
+    (length l.fn.excess) l.marks l.b

@@ -24,6 +24,7 @@ loop-i-preserved g c =
     let d : Event = record { block = 0; kind = ReadExcess } in
     record {
       run = subst (λ (xs : List Event). Run c.args.net.now (opening c.args.net.now) xs (state_of c.step.new.self))
-          (sym (take_more c.args.events.now c.loop-i.i d c.loop-i-test.true)) (run_more _ _ _ _ _ _ c.loop-i.invariant.run c.in-Ok-step.ensures.made.step);
+          (sym (take_more c.args.events.now c.loop-i.i d c.loop-i-test.true))
+          (run_more _ _ _ _ _ _ c.loop-i.invariant.run c.in-Ok-step.ensures.made.step);
       over = c.in-Ok-step.ensures.state;
     }

@@ -10,5 +10,6 @@ returns-clause-goes_on g c =
     elim c.match-end_operations.branch [
       | in-Some w ↦ subst P (sym w.board-is) w.in-Some.ensures.goes_on
       | in-None w ↦ subst P (sym w.board-is)
-          (record_further c.args.board.now c.end_operations.new.board w.take_turns-end.new.board c.args.steps w.in-None.ensures.goes_on w.take_turns-end.ensures.goes_on)
+          (record_further c.args.board.now c.end_operations.new.board w.take_turns-end.new.board c.args.steps
+          w.in-None.ensures.goes_on w.take_turns-end.ensures.goes_on)
     ]

@@ -6,4 +6,5 @@ use Rattle.machine_tests.proofs.word_seats.apart.Goals as goal
 pub returns : goal.returns
 returns c =
     let size = c.requires.size in
-    first_two c.args._words.now c.args.seats.items c.in-Some-pop.left c.in-Some.right (last_two _ _ _ _ _ c.in-Some.ensures.items c.in-Some-pop.ensures.items (omega (arith, size))) c.requires
+    first_two c.args._words.now c.args.seats.items c.in-Some-pop.left c.in-Some.right
+    (last_two _ _ _ _ _ c.in-Some.ensures.items c.in-Some-pop.ensures.items (omega (arith, size))) c.requires

@@ -11,6 +11,7 @@ loop-b-preserved c =
     let net = c.args.net.now in (
       search rules,
       search rules,
-      pushed_all (λ j a. IsCutWorth (amount_at net.worths j) c.args.most a) c.loop-b.worths.items c.push.new.self.items x c.loop-b.b c.in_ok-push.ensures.items h.1 h.2
+      pushed_all (λ j a. IsCutWorth (amount_at net.worths j) c.args.most a) c.loop-b.worths.items
+          c.push.new.self.items x c.loop-b.b c.in_ok-push.ensures.items h.1 h.2
           (subst (λ (w : Amount). IsCutWorth w c.args.most (scaled_parts x)) c.worth.ensures c.cut_worth-worth.ensures),
     )

@@ -1,6 +1,7 @@
 use Rattle.std.proofs.Common.{rules, ◌≡◌, ◌∙◌, true, ap, sym, arith}
 use Rattle.machine_law.specs.Operations.{is_idle}
-use Rattle.word_runner.specs.Prelude.{IsHalf, Own, WordsView}
+use Rattle.word_steps.specs.Prelude.{IsHalf}
+use Rattle.word_runner.specs.Prelude.{Own, WordsView}
 use Rattle.word_runner.proofs.FreeSeats.{free_is}
 use Rattle.word_runner.proofs.Begins.{joins}
 use Rattle.word_runner.proofs.settling.join.Goals as goal

@@ -6,8 +6,11 @@ use Rattle.workers.proofs.auditing.solve_audited.Goals as goal
 
 pub returns-clause-answer : goal.returns-clause-answer
 returns-clause-answer g c =
-    answered (λ s. s.flow) (λ s. s.history.items) (λ f. f.fault) (λ f. f.history.items) c.args.net.now c.args.workers c.args.steps c.args.room c.audit_of.result
-    (subst (λ (n : NetView). MatchResult c.audit_of.result (λ s. IsAudit n c.args.steps c.args.room s.flow s.history.items) (λ f. AuditRunFaultStands n c.args.steps c.args.room f.fault f.history.items)) c.in_ok-board.ensures.net_is
+    answered (λ s. s.flow) (λ s. s.history.items) (λ f. f.fault) (λ f. f.history.items) c.args.net.now c.args.workers
+    c.args.steps c.args.room c.audit_of.result
+    (subst (λ (n : NetView). MatchResult c.audit_of.result
+    (λ s. IsAudit n c.args.steps c.args.room s.flow s.history.items)
+    (λ f. AuditRunFaultStands n c.args.steps c.args.room f.fault f.history.items)) c.in_ok-board.ensures.net_is
     (c.audit_of.ensures c.args.room c.in_ok-board.ensures.room_is))
 
 pub returns-clause-workers : goal.returns-clause-workers

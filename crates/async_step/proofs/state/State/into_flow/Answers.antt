@@ -5,8 +5,11 @@ use Rattle.async_step.proofs.Waits.{flow_of}
 use Rattle.async_step.proofs.state.State.into_flow.Goals as goal
 
 pub returns-then-not-quiet : goal.returns-then-not-quiet
-returns-then-not-quiet g c =
-    (refl, λ q. (let t = (c.quiet.ensures c.args._net.now (sym c.requires.blocks)).1 q in let e : true ≡ false = sym t ∙ c.if-not-quiet.true in cc))
+returns-then-not-quiet g c = (
+  refl,
+  λ q. (let t = (c.quiet.ensures c.args._net.now (sym c.requires.blocks)).1 q in let e : true ≡ false = sym t
+      ∙ c.if-not-quiet.true in cc),
+)
 
 pub returns : goal.returns
 returns g c =

@@ -20,7 +20,10 @@ returns g c =
     let o : Operation Amount = operation_as f c.args.operation in
     let change : Change Amount = change_as f c.args.change in
     let v : StateView = c.args.self.now in
-    let few : v.steps < MOST_STEPS = not_full c.is_full.result v.steps MOST_STEPS c.is_full.ensures c.if-is_full.false in
+    let few : v.steps < MOST_STEPS = not_full c.is_full.result v.steps MOST_STEPS c.is_full.ensures
+    c.if-is_full.false in
     subst (GoesTo c.args.net.now v (after_change (with_operation (state_of v) c.args.b o) c.args.b change))
-    (sym (c.go_on.ensures ∙ ap (λ (w : StateView). record w { operation = set w.operation c.args.b o; steps = w.steps + 1 }) c.change.ensures))
-    (goes c.args.net.now v c.requires.over c.args.b c.requires.block o few c.len-sized.ensures.sized change c.requires.can)
+    (sym (c.go_on.ensures ∙ ap
+    (λ (w : StateView). record w { operation = set w.operation c.args.b o; steps = w.steps + 1 }) c.change.ensures))
+    (goes c.args.net.now v c.requires.over c.args.b c.requires.block o few c.len-sized.ensures.sized change
+    c.requires.can)

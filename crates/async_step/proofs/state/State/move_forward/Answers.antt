@@ -6,4 +6,6 @@ use Rattle.async_step.proofs.state.State.move_forward.Goals as goal
 pub returns-in_err-more : goal.returns-in_err-more
 returns-in_err-more g c =
     too_large _ _ _ _ c.from_residual.result (search rules)
-    (λ h. (rw c.in_err-more.ensures.ok_part at c.try_add.ensures) (subst (λ (a : Amount). FitsPair (plus a (g.G.OrderedGroup.parts_of c.args.amount))) (sym c.flow.ensures) (fits_value _ _ _ (h.flow c.args.port.slot))))
+    (λ h. (rw c.in_err-more.ensures.ok_part at c.try_add.ensures)
+    (subst (λ (a : Amount). FitsPair (plus a (g.G.OrderedGroup.parts_of c.args.amount))) (sym c.flow.ensures)
+    (fits_value _ _ _ (h.flow c.args.port.slot))))

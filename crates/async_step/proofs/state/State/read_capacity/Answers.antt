@@ -15,9 +15,15 @@ returns g c =
     let net = c.args.net.now in
     let v : StateView = c.args.self.now in
     let b = c.args.block in
-    let next : ℕ → Amount → Operation Amount = λ n x. after_capacity_by n ((state_of v).label b) x ((state_of v).operation b) in
+    let next : ℕ → Amount → Operation Amount = λ n x. after_capacity_by n ((state_of v).label b) x
+    ((state_of v).operation b) in
     let o : Operation Amount = next (length (ports net b)) (capacity net (state_of v) b c.args.port) in
-    let few : v.steps < MOST_STEPS = not_full c.is_full.result v.steps MOST_STEPS c.is_full.ensures c.if-is_full.false in (
-      subst (GoesTo net v (with_operation (state_of v) b o)) (sym (c.see_capacity.ensures ∙ ap₂ (λ n x. record v { operation = set v.operation b (next n x); steps = v.steps + 1 }) c.ports.ensures c.capacity-seen.ensures)) (goes net v c.requires.over b c.requires.block o few c.len-sized.ensures.sized Nothing tt),
+    let few : v.steps < MOST_STEPS = not_full c.is_full.result v.steps MOST_STEPS c.is_full.ensures
+    c.if-is_full.false in (
+      subst (GoesTo net v (with_operation (state_of v) b o))
+          (sym (c.see_capacity.ensures
+          ∙ ap₂ (λ n x. record v { operation = set v.operation b (next n x); steps = v.steps + 1 }) c.ports.ensures
+          c.capacity-seen.ensures))
+          (goes net v c.requires.over b c.requires.block o few c.len-sized.ensures.sized Nothing tt),
       ap Capacity c.capacity-seen.ensures,
     )

@@ -9,4 +9,6 @@ returns-in_err-less g c =
     let d = g.G.OrderedGroup.parts_of c.args.amount in
     let f = (state_of c.args.self.now).excess in
     let large = rw c.in_err-less.ensures.ok_part at c.try_sub.ensures in
-    too_large _ _ _ _ c.from_residual.result (search rules) (λ h. large (subst (λ (a : Amount). FitsPair (minus a d)) (sym c.excess.ensures) (fits_value f c.args.block (minus (f c.args.block) d) (h.excess c.args.block))))
+    too_large _ _ _ _ c.from_residual.result (search rules)
+    (λ h. large (subst (λ (a : Amount). FitsPair (minus a d)) (sym c.excess.ensures)
+    (fits_value f c.args.block (minus (f c.args.block) d) (h.excess c.args.block))))

@@ -9,5 +9,8 @@ pub invariant_of-result : goal.invariant_of-result
 invariant_of-result g c =
     let r = c.in_ok-board.board in
     let o = c.in_ok-board.ensures in
-    let none : (shown_state r.board).steps ≡ 0 = ap (λ (s : State). s.steps) o.board.state in
-    (o.records, audited r c.len-blocks.ensures.made (c.len-blocks.ensures.events o.records) (omega (arith, none)) (subst (λ k. k ≤ MOST_EVENTS) (sym o.room) c.requires))
+    let none : (shown_state r.board).steps ≡ 0 = ap (λ (s : State). s.steps) o.board.state in (
+      o.records,
+      audited r c.len-blocks.ensures.made (c.len-blocks.ensures.events o.records) (omega (arith, none))
+          (subst (λ k. k ≤ MOST_EVENTS) (sym o.room) c.requires),
+    )

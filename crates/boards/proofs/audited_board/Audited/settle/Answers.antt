@@ -9,7 +9,8 @@ pub returns-then-not-quiet : goal.returns-then-not-quiet
 returns-then-not-quiet g c = (
   refl,
   subst (λ (a : AuditView). ¬ (IsQuiet a.board.net (shown_state a.board))) c.self.view_is
-      (unquiet c.quiet.result (IsQuiet c.self.inside.board.board.net (shown_state c.self.inside.board.board)) c.quiet.ensures c.if-not-quiet.true),
+      (unquiet c.quiet.result (IsQuiet c.self.inside.board.board.net (shown_state c.self.inside.board.board))
+      c.quiet.ensures c.if-not-quiet.true),
 )
 
 pub returns : goal.returns
