@@ -1,9 +1,10 @@
 //! The command `check`: its options and help, and the files that its arguments name.
 
 use crate::options::{
-    ModelArgs, STATUSES, file_arg, model_args, model_options, text_of, verbose_option, with_options,
+    ModelArgs, command_with_help, file_arg, model_args, text_of, threads_option, verbose_option,
+    with_arg, with_model,
 };
-use clap::{Arg, ArgMatches, Command};
+use clap::{ArgMatches, Command};
 use std::alloc::{AllocError, Global};
 
 const ABOUT: &str = "Checks a certificate: does its flow prove that its pit is the best?";
@@ -19,30 +20,33 @@ With --blocks and --settings, and no --upit, a block's worth follows from its pr
 
 const CERTIFICATE_HELP: &str = "The pit and its flow: a PITCERT text";
 
-/// The files of a check, and whether it is told why one failed.
+/// The files of a check, how many threads read it where that was given, and whether it is told why a file failed.
 #[derive(Clone, Copy)]
 pub struct CheckArgs<'a> {
     pub prec: &'a str,
     pub model: ModelArgs<'a>,
     pub certificate: &'a str,
+    pub threads: Option<&'a str>,
     pub verbose: bool,
 }
 
 /// The command.
 pub fn check_command<'a>(alloc: Global) -> Result<Command<'a>, AllocError> {
-    let command = Command::new(alloc, "check")
-        .about(ABOUT)
-        .long_about(DETAILS)
-        .after_help(STATUSES)
-        .override_usage(USAGE);
-    let command = with_options(command, model_options(alloc))?;
-    with_options(command, certificate_options(alloc))
+    let command = command_with_help(alloc, "check", ABOUT, DETAILS).override_usage(USAGE);
+    with_certificate(alloc, with_model(alloc, command))
 }
 
-// The file of the certificate, and whether it is told why one failed.
-fn certificate_options<'a>(alloc: Global) -> Result<Vec<Arg<'a>>, AllocError> {
-    let certificate = file_arg(alloc, "certificate", "CERT", CERTIFICATE_HELP);
-    Ok(vec![in alloc; certificate, verbose_option(alloc)]?)
+// With the file of the certificate, how many threads read, and whether it is told why a file failed.
+fn with_certificate<'a>(
+    alloc: Global,
+    command: Result<Command<'a>, AllocError>,
+) -> Result<Command<'a>, AllocError> {
+    let command = with_arg(
+        command,
+        file_arg(alloc, "certificate", "CERT", CERTIFICATE_HELP),
+    );
+    let command = with_arg(command, threads_option(alloc));
+    with_arg(command, verbose_option(alloc))
 }
 
 /// The arguments that were given.
@@ -51,6 +55,7 @@ pub fn check_args<'a>(matches: &ArgMatches<'a>) -> CheckArgs<'a> {
         prec: text_of(matches, "prec"),
         model: model_args(matches),
         certificate: text_of(matches, "certificate"),
+        threads: matches.get_str("threads"),
         verbose: matches.get_flag("verbose"),
     }
 }

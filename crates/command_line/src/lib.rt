@@ -3,6 +3,12 @@
 //! Uses the `clap` library alone, and promises nothing except that it is safe. What an argument means is decided above,
 //! where numbers and names are read; an argument that names nothing is reported here, in the library's form. A crate of
 //! its own, because `clap` is dear to prove over and nothing else needs it.
+//!
+//! An example: of the words `pit check --prec a.prec --upit a.upit a.cert` `request_of` makes `Request::Check`. Its
+//! `CheckArgs` name the three files, of which the values are in `ModelArgs::Values`, and ask for no number of threads.
+//! Without the last word it gives a `Declined`, which prints what is missing and has the status 2; with `--help` one
+//! that prints the help and has the status 0. `--threads many` is a request too: `pit_commands` finds that it is no
+//! number, and `declined_for` makes the `Declined` that says what the option takes. Tried in `tests/cases/usage`.
 #![tactic(auto)]
 
 mod bound_command;

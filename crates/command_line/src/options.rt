@@ -1,4 +1,5 @@
-//! What the commands share: options that name a file or one of a few things, and the text on exit statuses.
+//! What the commands share: a command with its help and the text on exit statuses, how options are added to it one by
+//! one, and the options that name a file or one of a few things.
 
 use clap::{Arg, ArgAction, ArgMatches, Command};
 use std::alloc::{AllocError, Global};
@@ -6,7 +7,7 @@ use std::alloc::{AllocError, Global};
 /// The exit statuses, for each command's help.
 pub const STATUSES: &str = "Exit status:
   0  done: the answer is on standard output
-  1  no: the certificate doesn't prove its pit, the run gave no pit, the design needs other blocks, or the trace isn't that of a whole run
+  1  no: the certificate doesn't prove its pit, the run gave no pit, the design needs other blocks, the schedule isn't feasible, or the trace isn't that of a whole run
   2  usage: a wrong use of the command line
   3  a file is wrong, its numbers are too large, or a pattern gives nothing for it: standard error names the fault, and the line of the file if it has one
   4  memory or a thread was refused, or a file or the output failed
@@ -35,13 +36,42 @@ pub fn number_option<'a>(alloc: Global, name: &'a str, shown: &'a str, help: &'a
     named_option(alloc, name, shown, help).allow_negative_numbers(true)
 }
 
-/// The command with these options more, in the order in which its help shows them, where memory wasn't refused for
-/// them.
-pub fn with_options<'a>(
-    command: Command<'a>,
-    options: Result<Vec<Arg<'a>>, AllocError>,
+/// A command with its help: what it does, in a line and in full, and the exit statuses.
+pub fn command_with_help<'a>(
+    alloc: Global,
+    name: &'a str,
+    about: &'a str,
+    details: &'a str,
+) -> Command<'a> {
+    Command::new(alloc, name)
+        .about(about)
+        .long_about(details)
+        .after_help(STATUSES)
+}
+
+/// The command with this option more, where memory was refused for neither. Its help shows them in the order in which
+/// they are added.
+// A command is handed from option to option as what was made of it: a caller that left at each refusal would have to
+// give back all that it has made by then, which is dear to prove.
+pub fn with_option<'a>(
+    command: Result<Command<'a>, AllocError>,
+    option: Result<Arg<'a>, AllocError>,
 ) -> Result<Command<'a>, AllocError> {
-    command.args(options?)
+    match option {
+        Ok(option) => with_arg(command, option),
+        Err(refused) => Err(refused),
+    }
+}
+
+/// The command with this option or argument more, where memory wasn't refused for it.
+pub fn with_arg<'a>(
+    command: Result<Command<'a>, AllocError>,
+    arg: Arg<'a>,
+) -> Result<Command<'a>, AllocError> {
+    match command {
+        Ok(command) => command.arg(arg),
+        Err(refused) => Err(refused),
+    }
 }
 
 /// An option that must be given and names a file.
@@ -110,24 +140,25 @@ pub enum ModelArgs<'a> {
     },
 }
 
-/// The options that name the files of a mine: its precedence, and its values or its settings and blocks; or its values,
-/// settings and blocks.
-pub fn model_options<'a>(alloc: Global) -> Result<Vec<Arg<'a>>, AllocError> {
-    let prec = prec_option(alloc)?;
-    let values = values_option(alloc)?;
-    let blocks = blocks_option(alloc)?;
-    let settings = settings_option(alloc)?;
-    Ok(vec![in alloc; prec, values, blocks, settings]?)
+/// The command with the options that name the files of a mine: its precedence, and its values or its settings and
+/// blocks; or its values, settings and blocks.
+pub fn with_model<'a>(alloc: Global, command: Command<'a>) -> Result<Command<'a>, AllocError> {
+    let command = with_option(Ok(command), prec_option(alloc));
+    let command = with_option(command, values_option(alloc));
+    let command = with_option(command, blocks_option(alloc));
+    with_option(command, settings_option(alloc))
 }
 
-/// The options that name a model, of values or priced, where the option of the factor is beside them.
-pub fn model_at_factor_options<'a>(alloc: Global) -> Result<Vec<Arg<'a>>, AllocError> {
-    let prec = prec_option(alloc)?;
-    let values = values_option(alloc)?.required_unless_present("factor")?;
-    let blocks = blocks_at_factor(alloc)?;
-    let settings = settings_option(alloc)?;
-    let factor = factor_option(alloc)?;
-    Ok(vec![in alloc; prec, values, blocks, settings, factor]?)
+/// The command with the options that name a model, of values or priced, where the option of the factor is beside them.
+pub fn with_model_at_factor<'a>(
+    alloc: Global,
+    command: Command<'a>,
+) -> Result<Command<'a>, AllocError> {
+    let command = with_option(Ok(command), prec_option(alloc));
+    let command = with_option(command, values_at_factor(alloc));
+    let command = with_option(command, blocks_at_factor(alloc));
+    let command = with_option(command, settings_option(alloc));
+    with_option(command, factor_option(alloc))
 }
 
 // The predecessors, in whose place settings may list slopes. Blocks alone are told to need settings, and not this file.
@@ -142,6 +173,11 @@ fn values_option<'a>(alloc: Global) -> Result<Arg<'a>, AllocError> {
     named_option(alloc, "upit", "FILE", UPIT_HELP)
         .required_unless_present("blocks")?
         .required_unless_present("settings")
+}
+
+// The values of blocks, where no factor is given either.
+fn values_at_factor<'a>(alloc: Global) -> Result<Arg<'a>, AllocError> {
+    values_option(alloc)?.required_unless_present("factor")
 }
 
 // The blocks of a priced model.
@@ -204,6 +240,22 @@ fn factor_option<'a>(alloc: Global) -> Result<Arg<'a>, AllocError> {
     .conflicts_with("upit")
 }
 
+/// The option of the factor at which something is judged, where no certificate names it.
+pub fn factor_unless_best<'a>(alloc: Global, help: &'a str) -> Result<Arg<'a>, AllocError> {
+    number_option(alloc, "factor", "FACTOR", help)
+        .requires_arg("blocks")?
+        .conflicts_with("upit")?
+        .conflicts_with("best")
+}
+
+const PIT_HELP: &str =
+    "A certificate of a best pit of the mine, at the same price, as `pit solve` writes it and `pit check` judges it: blocks outside the pit are left out of the mine of blocks and periods";
+
+/// The option that names the certificate of a pit, to whose blocks the mine of blocks and periods is restricted.
+pub fn pit_option<'a>(alloc: Global) -> Arg<'a> {
+    named_option(alloc, "pit", "CERT", PIT_HELP)
+}
+
 /// The option that names what amounts count.
 pub fn group_option<'a>(alloc: Global) -> Arg<'a> {
     named_option(
@@ -232,6 +284,16 @@ pub fn steps_option<'a>(alloc: Global) -> Arg<'a> {
 /// The option that says how many workers there are.
 pub fn workers_option<'a>(alloc: Global, help: &'a str) -> Arg<'a> {
     number_option(alloc, "workers", "WORKERS", help)
+}
+
+/// The option that says how many threads read a precedence at once, and values.
+pub fn threads_option<'a>(alloc: Global) -> Arg<'a> {
+    number_option(
+        alloc,
+        "threads",
+        "THREADS",
+        "How many threads read --prec and --upit at once, from 1 to 64 (by default as many as there are processors, at most 8, and 1 where a text has less than 2 MB)",
+    )
 }
 
 /// The option that shows how far a run is.

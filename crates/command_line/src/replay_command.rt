@@ -1,10 +1,10 @@
 //! The command `replay`: its options and help, and what its arguments ask for, with the names of the files.
 
 use crate::options::{
-    ModelArgs, STATUSES, file_arg, group_option, model_args, model_at_factor_options, text_of,
-    verbose_option, with_options,
+    ModelArgs, command_with_help, file_arg, group_option, model_args, text_of, verbose_option,
+    with_arg, with_model_at_factor,
 };
-use clap::{Arg, ArgMatches, Command};
+use clap::{ArgMatches, Command};
 use std::alloc::{AllocError, Global};
 
 const ABOUT: &str = "Repeats a run step by step from its trace";
@@ -36,19 +36,18 @@ pub struct ReplayArgs<'a> {
 
 /// The command.
 pub fn replay_command<'a>(alloc: Global) -> Result<Command<'a>, AllocError> {
-    let command = Command::new(alloc, "replay")
-        .about(ABOUT)
-        .long_about(DETAILS)
-        .after_help(STATUSES)
-        .override_usage(USAGE);
-    let command = with_options(command, model_at_factor_options(alloc))?;
-    with_options(command, trace_options(alloc))
+    let command = command_with_help(alloc, "replay", ABOUT, DETAILS).override_usage(USAGE);
+    with_trace(alloc, with_model_at_factor(alloc, command))
 }
 
-// What amounts count, the file of the trace, and whether it is told why one failed.
-fn trace_options<'a>(alloc: Global) -> Result<Vec<Arg<'a>>, AllocError> {
-    let trace = file_arg(alloc, "trace", "TRACE", TRACE_HELP);
-    Ok(vec![in alloc; group_option(alloc), trace, verbose_option(alloc)]?)
+// With what amounts count, the file of the trace, and whether it is told why one failed.
+fn with_trace<'a>(
+    alloc: Global,
+    command: Result<Command<'a>, AllocError>,
+) -> Result<Command<'a>, AllocError> {
+    let command = with_arg(command, group_option(alloc));
+    let command = with_arg(command, file_arg(alloc, "trace", "TRACE", TRACE_HELP));
+    with_arg(command, verbose_option(alloc))
 }
 
 /// The arguments that were given.

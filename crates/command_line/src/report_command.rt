@@ -1,6 +1,7 @@
-//! The command `report` with its help. Its options are those of all commands over a series of factors.
+//! The command `report`, which prints the bench table: its help, and what `--ways` adds there. Its other options are
+//! those of all commands over a series of factors.
 
-use crate::options::STATUSES;
+use crate::options::command_with_help;
 use crate::series_options::{ways_option, with_series};
 use clap::Command;
 use std::alloc::{AllocError, Global};
@@ -22,10 +23,7 @@ const WAYS_HELP: &str =
 
 /// The command.
 pub fn report_command<'a>(alloc: Global) -> Result<Command<'a>, AllocError> {
-    let command = Command::new(alloc, "report")
-        .about(ABOUT)
-        .long_about(DETAILS)
-        .after_help(STATUSES);
+    let command = command_with_help(alloc, "report", ABOUT, DETAILS);
     let ways = ways_option(alloc, WAYS_HELP);
-    with_series(alloc, command, SETTINGS_HELP, ways)
+    with_series(alloc, command, SETTINGS_HELP, Ok(ways))
 }

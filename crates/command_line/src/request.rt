@@ -14,8 +14,9 @@ use crate::slopes_command::{SlopesArgs, slopes_args, slopes_command};
 use crate::solve_command::{SolveArgs, solve_args, solve_command};
 use crate::value_command::{ValueArgs, value_args, value_command};
 use crate::version::VERSION;
+use crate::wrong_value::error_of;
 use clap::error::ErrorKind;
-use clap::{Command, Error};
+use clap::{ArgMatches, Command, Error};
 use std::alloc::{AllocError, Global};
 
 const ABOUT: &str =
@@ -80,27 +81,52 @@ fn escaped_args(alloc: Global, args: &[String]) -> Result<Vec<String>, AllocErro
     Ok(shown)
 }
 
+// The matches are lent, so that nothing has to be given back where one of the words is wrong.
 fn parsed<'a>(alloc: Global, args: &'a [String]) -> Result<Request<'a>, Error> {
     let matches = pit_command(alloc)?.try_get_matches_from(args)?;
-    match matches.subcommand() {
-        Some((name, matches)) if names_rests_twice(matches) => {
-            Err(rests_said_twice(alloc, name)?)
-        }
-        Some(("bound", matches)) => Ok(Request::Bound(bound_args(matches))),
-        Some(("check", matches)) => Ok(Request::Check(check_args(matches))),
-        Some(("replay", matches)) => Ok(Request::Replay(replay_args(matches))),
-        Some(("report", matches)) => {
-            Ok(Request::Series(series_args(SeriesCommand::Report, matches)))
-        }
-        Some(("schedule", matches)) => Ok(Request::Schedule(schedule_args(matches))),
-        Some(("shells", matches)) => {
-            Ok(Request::Series(series_args(SeriesCommand::Shells, matches)))
-        }
-        Some(("slopes", matches)) => Ok(Request::Slopes(slopes_args(matches))),
-        Some(("solve", matches)) => Ok(Request::Solve(solve_args(matches))),
-        Some(("value", matches)) => Ok(Request::Value(value_args(matches))),
-        _ => Err(pit_command(alloc)?.error(ErrorKind::MissingSubcommand, "a command is missing")?),
+    match request_in(&matches) {
+        Some(request) => Ok(request),
+        None => Err(error_in(alloc, &matches)),
     }
+}
+
+fn request_in<'a>(matches: &ArgMatches<'a>) -> Option<Request<'a>> {
+    match matches.subcommand() {
+        Some((_, matches)) if names_rests_twice(matches) => None,
+        Some((name, matches)) => request_by(name, matches),
+        None => None,
+    }
+}
+
+fn request_by<'a>(name: &str, matches: &ArgMatches<'a>) -> Option<Request<'a>> {
+    match name {
+        "bound" => Some(Request::Bound(bound_args(matches))),
+        "check" => Some(Request::Check(check_args(matches))),
+        "replay" => Some(Request::Replay(replay_args(matches))),
+        "report" => Some(Request::Series(series_args(SeriesCommand::Report, matches))),
+        "schedule" => Some(Request::Schedule(schedule_args(matches))),
+        "shells" => Some(Request::Series(series_args(SeriesCommand::Shells, matches))),
+        "slopes" => Some(Request::Slopes(slopes_args(matches))),
+        "solve" => Some(Request::Solve(solve_args(matches))),
+        "value" => Some(Request::Value(value_args(matches))),
+        _ => None,
+    }
+}
+
+// Why matches are no request.
+fn error_in(alloc: Global, matches: &ArgMatches<'_>) -> Error {
+    let error = match matches.subcommand() {
+        Some((name, matches)) if names_rests_twice(matches) => rests_said_twice(alloc, name),
+        _ => command_missing(alloc),
+    };
+    match error {
+        Ok(error) => error,
+        Err(refused) => Error::from(refused),
+    }
+}
+
+fn command_missing(alloc: Global) -> Result<Error, AllocError> {
+    pit_command(alloc)?.error(ErrorKind::MissingSubcommand, "a command is missing")
 }
 
 // What is wrong with files of a mine where two of them say what rests on what.
@@ -113,8 +139,7 @@ fn rests_said_twice(alloc: Global, name: &str) -> Result<Error, AllocError> {
         "value" => (value_command(alloc), "pit value"),
         _ => (solve_command(alloc), "pit solve"),
     };
-    let mut command = made?.bin_name(name)?;
-    command.error(ErrorKind::ArgumentConflict, RESTS_TWICE)
+    error_of(made, name, ErrorKind::ArgumentConflict, RESTS_TWICE)
 }
 
 fn pit_command<'a>(alloc: Global) -> Result<Command<'a>, AllocError> {
@@ -123,20 +148,36 @@ fn pit_command<'a>(alloc: Global) -> Result<Command<'a>, AllocError> {
         .version(VERSION)
         .after_help(STATUSES)
         .subcommand_required(true);
-    let command = with_command(command, check_command(alloc))?;
-    let command = with_command(command, slopes_command(alloc))?;
-    let command = with_command(command, solve_command(alloc))?;
-    let command = with_command(command, shells_command(alloc))?;
-    let command = with_command(command, report_command(alloc))?;
-    let command = with_command(command, value_command(alloc))?;
-    let command = with_command(command, schedule_command(alloc))?;
-    let command = with_command(command, bound_command(alloc))?;
+    with_judging_commands(alloc, with_mining_commands(alloc, command))
+}
+
+fn with_mining_commands<'a>(
+    alloc: Global,
+    command: Command<'a>,
+) -> Result<Command<'a>, AllocError> {
+    let command = with_command(Ok(command), check_command(alloc));
+    let command = with_command(command, slopes_command(alloc));
+    let command = with_command(command, solve_command(alloc));
+    let command = with_command(command, shells_command(alloc));
+    with_command(command, report_command(alloc))
+}
+
+fn with_judging_commands<'a>(
+    alloc: Global,
+    command: Result<Command<'a>, AllocError>,
+) -> Result<Command<'a>, AllocError> {
+    let command = with_command(command, value_command(alloc));
+    let command = with_command(command, schedule_command(alloc));
+    let command = with_command(command, bound_command(alloc));
     with_command(command, replay_command(alloc))
 }
 
 fn with_command<'a>(
-    command: Command<'a>,
+    command: Result<Command<'a>, AllocError>,
     below: Result<Command<'a>, AllocError>,
 ) -> Result<Command<'a>, AllocError> {
-    command.subcommand(below?)
+    match (command, below) {
+        (Ok(command), Ok(below)) => command.subcommand(below),
+        (Err(refused), _) | (_, Err(refused)) => Err(refused),
+    }
 }

@@ -2,10 +2,11 @@
 //! periods and of its mine, and of the certificate that bounds it.
 
 use crate::options::{
-    ModelArgs, STATUSES, file_arg, file_option, model_args, model_options, named_option,
-    number_option, text_of, uses_option, verbose_option, with_options,
+    ModelArgs, command_with_help, factor_unless_best, file_arg, file_option, model_args,
+    named_option, pit_option, text_of, uses_option, verbose_option, with_arg, with_model,
+    with_option,
 };
-use clap::{Arg, ArgMatches, Command};
+use clap::{ArgMatches, Command};
 use std::alloc::{AllocError, Global};
 
 const ABOUT: &str = "Judges a schedule: what is it worth in its periods, and can it be dug?";
@@ -27,10 +28,10 @@ Answers:
   BOUND v                          with --best: no feasible schedule is worth more than v
   GAP amount                       with --best, of a feasible schedule: what v is more than it is worth
 
-It is exact. With --best a certificate that `pit bound` would refuse gives its line alone, REFUSED and the reason, with the status 1.";
+It is exact. With --best a certificate that `pit bound` would refuse gives its line alone, REFUSED and the reason, with the status 1. With --pit too the certificate is that of the blocks of this pit alone.";
 
 const SCHEDULE_HELP: &str =
-    "The schedule, a line for each block that is dug: its number and its period, both from 0 on";
+    "The schedule, a line for each block that is dug: its number and its period, both from 0 on, and perhaps its way, where the model has ways";
 
 const PERIODS_HELP: &str =
     "What periods weigh, which columns have what blocks use of resources, and what each period has: a TOML text";
@@ -42,7 +43,7 @@ const FACTOR_HELP: &str =
     "The share of the revenues that counts, in thousandths, from 0 to 10000, with --blocks and no --upit; 1000 by default";
 
 /// The files of a schedule, of its periods and of its mine, where they were given the factor, the blocks that have the
-/// uses and the certificate of a bound, and whether it is told why a file failed.
+/// uses and the certificates of a bound and of a pit, and whether it is told why a file failed.
 #[derive(Clone, Copy)]
 pub struct ScheduleArgs<'a> {
     pub prec: &'a str,
@@ -51,40 +52,40 @@ pub struct ScheduleArgs<'a> {
     pub uses: Option<&'a str>,
     pub factor: Option<&'a str>,
     pub best: Option<&'a str>,
+    pub pit: Option<&'a str>,
     pub schedule: &'a str,
     pub verbose: bool,
 }
 
 /// The command.
 pub fn schedule_command<'a>(alloc: Global) -> Result<Command<'a>, AllocError> {
-    let command = Command::new(alloc, "schedule")
-        .about(ABOUT)
-        .long_about(DETAILS)
-        .after_help(STATUSES)
-        .override_usage(USAGE);
-    let command = with_options(command, model_options(alloc))?;
-    with_options(command, plan_options(alloc))
+    let command = command_with_help(alloc, "schedule", ABOUT, DETAILS).override_usage(USAGE);
+    let command = with_periods(alloc, with_model(alloc, command));
+    let command = with_bound(alloc, command);
+    let command = with_arg(
+        command,
+        file_arg(alloc, "schedule", "SCHEDULE", SCHEDULE_HELP),
+    );
+    with_arg(command, verbose_option(alloc))
 }
 
-// The files of periods, of uses and of the schedule, at what factor it is judged, what bounds it, and whether it is
-// told why a file failed.
-fn plan_options<'a>(alloc: Global) -> Result<Vec<Arg<'a>>, AllocError> {
-    let periods = file_option(alloc, "periods", PERIODS_HELP);
-    let uses = uses_option(alloc)?;
-    let factor = number_option(alloc, "factor", "FACTOR", FACTOR_HELP)
-        .requires_arg("blocks")?
-        .conflicts_with("upit")?
-        .conflicts_with("best")?;
-    let best = named_option(alloc, "best", "CERT", BEST_HELP);
-    let schedule = file_arg(alloc, "schedule", "SCHEDULE", SCHEDULE_HELP);
-    Ok(vec![in alloc;
-        periods,
-        uses,
-        factor,
-        best,
-        schedule,
-        verbose_option(alloc),
-    ]?)
+// With the files of periods and of uses, and at what factor the schedule is judged.
+fn with_periods<'a>(
+    alloc: Global,
+    command: Result<Command<'a>, AllocError>,
+) -> Result<Command<'a>, AllocError> {
+    let command = with_arg(command, file_option(alloc, "periods", PERIODS_HELP));
+    let command = with_option(command, uses_option(alloc));
+    with_option(command, factor_unless_best(alloc, FACTOR_HELP))
+}
+
+// With what bounds it.
+fn with_bound<'a>(
+    alloc: Global,
+    command: Result<Command<'a>, AllocError>,
+) -> Result<Command<'a>, AllocError> {
+    let command = with_arg(command, named_option(alloc, "best", "CERT", BEST_HELP));
+    with_option(command, pit_option(alloc).requires_arg("best"))
 }
 
 /// The arguments that were given.
@@ -96,6 +97,7 @@ pub fn schedule_args<'a>(matches: &ArgMatches<'a>) -> ScheduleArgs<'a> {
         uses: matches.get_str("uses"),
         factor: matches.get_str("factor"),
         best: matches.get_str("best"),
+        pit: matches.get_str("pit"),
         schedule: text_of(matches, "schedule"),
         verbose: matches.get_flag("verbose"),
     }

@@ -3,7 +3,7 @@
 
 use crate::options::{
     PREC_HELP, PRICED_BLOCKS_HELP, file_option, method_option, named_option, progress_option,
-    steps_option, text_of, verbose_solving_option, with_options, workers_option,
+    steps_option, text_of, verbose_solving_option, with_arg, with_option, workers_option,
 };
 use clap::{Arg, ArgAction, ArgMatches, Command};
 use std::alloc::{AllocError, Global};
@@ -75,34 +75,49 @@ pub fn ways_option<'a>(alloc: Global, help: &'a str) -> Arg<'a> {
         .help(help)
 }
 
-/// The options of such a command, with that of ways; the help says what its settings have.
+/// Such a command with its options, with that of ways; the help says what its settings have.
 pub fn with_series<'a>(
     alloc: Global,
     command: Command<'a>,
     settings_help: &'a str,
-    ways: Arg<'a>,
+    ways: Result<Arg<'a>, AllocError>,
 ) -> Result<Command<'a>, AllocError> {
-    with_options(command, series_options(alloc, settings_help, ways))
+    let command = with_priced_files(alloc, command, settings_help);
+    let command = with_table(alloc, with_solver(alloc, command), ways);
+    let command = with_arg(command, progress_option(alloc, PROGRESS_HELP));
+    with_arg(command, verbose_solving_option(alloc))
 }
 
-fn series_options<'a>(
+// With the file of the table of blocks, and whether it says which way each block goes.
+fn with_table<'a>(
     alloc: Global,
+    command: Result<Command<'a>, AllocError>,
+    ways: Result<Arg<'a>, AllocError>,
+) -> Result<Command<'a>, AllocError> {
+    let by_block = named_option(alloc, "by-block", "FILE", BY_BLOCK_HELP);
+    with_option(with_arg(command, by_block), ways)
+}
+
+// With the files of a mine with prices.
+fn with_priced_files<'a>(
+    alloc: Global,
+    command: Command<'a>,
     settings_help: &'a str,
-    ways: Arg<'a>,
-) -> Result<Vec<Arg<'a>>, AllocError> {
-    let methods = method_option(alloc, METHOD_HELP);
-    Ok(vec![in alloc;
-        named_option(alloc, "prec", "FILE", PREC_HELP),
-        file_option(alloc, "blocks", PRICED_BLOCKS_HELP),
-        file_option(alloc, "settings", settings_help),
-        methods.long_help(METHODS),
-        steps_option(alloc),
-        workers_option(alloc, WORKERS_HELP),
-        named_option(alloc, "by-block", "FILE", BY_BLOCK_HELP),
-        ways,
-        progress_option(alloc, PROGRESS_HELP),
-        verbose_solving_option(alloc),
-    ]?)
+) -> Result<Command<'a>, AllocError> {
+    let command = with_arg(Ok(command), named_option(alloc, "prec", "FILE", PREC_HELP));
+    let command = with_arg(command, file_option(alloc, "blocks", PRICED_BLOCKS_HELP));
+    with_arg(command, file_option(alloc, "settings", settings_help))
+}
+
+// With how each pit is found.
+fn with_solver<'a>(
+    alloc: Global,
+    command: Result<Command<'a>, AllocError>,
+) -> Result<Command<'a>, AllocError> {
+    let methods = method_option(alloc, METHOD_HELP).long_help(METHODS);
+    let command = with_arg(command, methods);
+    let command = with_arg(command, steps_option(alloc));
+    with_arg(command, workers_option(alloc, WORKERS_HELP))
 }
 
 /// The arguments that were given to this command.

@@ -1,6 +1,7 @@
-//! The command `shells` with its help. Its options are those of all commands over a series of factors.
+//! The command `shells`, which prints the best pit at each factor: its help, and what `--ways` adds to the table of
+//! blocks. Its other options are those of all commands over a series of factors.
 
-use crate::options::{SETTINGS_HELP, STATUSES};
+use crate::options::{SETTINGS_HELP, command_with_help};
 use crate::series_options::{ways_option, with_series};
 use clap::Command;
 use std::alloc::{AllocError, Global};
@@ -21,10 +22,7 @@ const WAYS_HELP: &str =
 
 /// The command.
 pub fn shells_command<'a>(alloc: Global) -> Result<Command<'a>, AllocError> {
-    let command = Command::new(alloc, "shells")
-        .about(ABOUT)
-        .long_about(DETAILS)
-        .after_help(STATUSES);
-    let ways = ways_option(alloc, WAYS_HELP).requires_arg("by-block")?;
+    let command = command_with_help(alloc, "shells", ABOUT, DETAILS);
+    let ways = ways_option(alloc, WAYS_HELP).requires_arg("by-block");
     with_series(alloc, command, SETTINGS_HELP, ways)
 }

@@ -1,7 +1,9 @@
 //! The command `slopes`: its options and help, and what its arguments ask for: the file of blocks, the pattern or the
 //! settings, and the way up.
 
-use crate::options::{STATUSES, file_option, named_option, text_of, verbose_option, with_options};
+use crate::options::{
+    command_with_help, file_option, named_option, text_of, verbose_option, with_arg, with_option,
+};
 use clap::{Arg, ArgAction, ArgMatches, Command};
 use std::alloc::{AllocError, Global};
 
@@ -56,26 +58,27 @@ pub struct SlopesArgs<'a> {
 
 /// The command.
 pub fn slopes_command<'a>(alloc: Global) -> Result<Command<'a>, AllocError> {
-    let command = Command::new(alloc, "slopes")
-        .about(ABOUT)
-        .long_about(DETAILS)
-        .after_help(STATUSES);
-    with_options(command, slope_options(alloc))
+    let command = command_with_help(alloc, "slopes", ABOUT, DETAILS);
+    let command = with_offsets(alloc, command);
+    let command = with_arg(command, reduce_option(alloc));
+    with_arg(command, verbose_option(alloc))
 }
 
-// The file of the blocks, the pattern, the way up, and the file of settings that a pattern may need.
-fn slope_options<'a>(alloc: Global) -> Result<Vec<Arg<'a>>, AllocError> {
-    let settings = named_option(alloc, "settings", "FILE", SETTINGS_HELP);
-    let settings = settings.required_if_eq("pattern", OF_SETTINGS)?;
-    let pattern = named_option(alloc, "pattern", "PATTERN", PATTERN_HELP);
-    Ok(vec![in alloc;
-        file_option(alloc, "blocks", BLOCKS_HELP),
-        pattern.required(true),
-        named_option(alloc, "up", "WAY", UP_HELP),
-        settings,
-        reduce_option(alloc),
-        verbose_option(alloc),
-    ]?)
+// With the file of the blocks, the pattern, the way up, and the file of settings that a pattern may need.
+fn with_offsets<'a>(alloc: Global, command: Command<'a>) -> Result<Command<'a>, AllocError> {
+    let command = with_arg(Ok(command), file_option(alloc, "blocks", BLOCKS_HELP));
+    let command = with_arg(command, pattern_option(alloc));
+    let command = with_arg(command, named_option(alloc, "up", "WAY", UP_HELP));
+    with_option(command, settings_option(alloc))
+}
+
+fn pattern_option<'a>(alloc: Global) -> Arg<'a> {
+    named_option(alloc, "pattern", "PATTERN", PATTERN_HELP).required(true)
+}
+
+// The file of settings, which the pattern of that name needs.
+fn settings_option<'a>(alloc: Global) -> Result<Arg<'a>, AllocError> {
+    named_option(alloc, "settings", "FILE", SETTINGS_HELP).required_if_eq("pattern", OF_SETTINGS)
 }
 
 // The option that leaves out the pairs that others imply.

@@ -2,9 +2,9 @@
 //! solved.
 
 use crate::options::{
-    ModelArgs, STATUSES, group_option, method_option, model_args, model_at_factor_options,
-    named_option, number_option, progress_option, steps_option, text_of, verbose_solving_option,
-    with_options, workers_option,
+    ModelArgs, command_with_help, group_option, method_option, model_args, named_option,
+    number_option, pit_option, progress_option, steps_option, text_of, threads_option,
+    verbose_solving_option, with_arg, with_model_at_factor, with_option, workers_option,
 };
 use clap::{Arg, ArgGroup, ArgMatches, Command};
 use std::alloc::{AllocError, Global};
@@ -20,7 +20,7 @@ Prints a PITCERT text for `pit check`: the pit, and a flow that proves it. Whate
 
 With --trace push-relabel computes the flow, and each of its steps is written to the trace, with which `pit replay` repeats the run. Prints HISTORYFULL, with the status 1, where the run needs more steps than --room has room for.
 
-With --periods it does so for the mine of blocks and periods, in worth alone: `pit bound` takes the certificate.
+With --periods it does so for the mine of blocks and periods, in worth alone: `pit bound` takes the certificate. With --pit it does so for the blocks of a best pit alone, numbered anew from 0 on in ascending order; prints REFUSED and the reason, with the status 1, where its certificate doesn't prove it.
 
 Methods:
   auto          push-relabel for at most 1000 blocks, and pseudoflow where a number of its run doesn't fit; for more blocks pseudoflow, and up to 10000 push-relabel where that gives no proof. Push-relabel alone where --steps is given
@@ -52,8 +52,8 @@ const ROOM_HELP: &str =
     "The most steps of a trace, from 1 to 16777216 (1048576 by default); no effect without --trace";
 
 /// The arguments of a request to solve: the files, and where they were given the factor, the method, the kind of
-/// amount, the steps, the workers, the trace and its room, the periods and what blocks use, and whether progress is
-/// shown and it is told why a file failed.
+/// amount, the steps, the workers, the threads that read, the trace and its room, the periods, a pit and what blocks
+/// use, and whether progress is shown and it is told why a file failed.
 #[derive(Clone, Copy)]
 pub struct SolveArgs<'a> {
     pub prec: &'a str,
@@ -63,9 +63,11 @@ pub struct SolveArgs<'a> {
     pub group: Option<&'a str>,
     pub steps: Option<&'a str>,
     pub workers: Option<&'a str>,
+    pub threads: Option<&'a str>,
     pub trace: Option<&'a str>,
     pub room: Option<&'a str>,
     pub periods: Option<&'a str>,
+    pub pit: Option<&'a str>,
     pub uses: Option<&'a str>,
     pub progress: bool,
     pub verbose: bool,
@@ -90,40 +92,73 @@ impl SolveArgs<'_> {
 
 /// The command.
 pub fn solve_command<'a>(alloc: Global) -> Result<Command<'a>, AllocError> {
-    let command = Command::new(alloc, "solve")
-        .about(ABOUT)
-        .long_about(DETAILS)
-        .after_help(STATUSES)
-        .override_usage(USAGE);
-    let command = with_options(command, model_at_factor_options(alloc))?;
-    let command = with_options(command, run_options(alloc))?;
-    let command = with_options(command, plan_options(alloc))?;
-    let used = ArgGroup::new(alloc, USED).arg("uses")?;
-    command.group(used.arg("blocks")?.multiple(true))
+    let command = command_with_help(alloc, "solve", ABOUT, DETAILS).override_usage(USAGE);
+    let command = with_run(alloc, with_model_at_factor(alloc, command));
+    let command = with_shown(alloc, command);
+    with_group(with_periods(alloc, command), used_group(alloc))
 }
 
-// The options of the mine of blocks and periods.
-fn plan_options<'a>(alloc: Global) -> Result<Vec<Arg<'a>>, AllocError> {
-    let periods = named_option(alloc, "periods", "FILE", PERIODS_HELP)
+// The command with this group of options more, where memory was refused for neither.
+fn with_group<'a>(
+    command: Result<Command<'a>, AllocError>,
+    group: Result<ArgGroup<'a>, AllocError>,
+) -> Result<Command<'a>, AllocError> {
+    match (command, group) {
+        (Ok(command), Ok(group)) => command.group(group),
+        (Err(refused), _) | (_, Err(refused)) => Err(refused),
+    }
+}
+
+// With the options of the mine of blocks and periods.
+fn with_periods<'a>(
+    alloc: Global,
+    command: Result<Command<'a>, AllocError>,
+) -> Result<Command<'a>, AllocError> {
+    let command = with_option(command, periods_option(alloc));
+    let command = with_option(command, planned_uses_option(alloc));
+    with_option(command, pit_option(alloc).requires_arg("periods"))
+}
+
+// What has the uses of blocks.
+fn planned_uses_option<'a>(alloc: Global) -> Result<Arg<'a>, AllocError> {
+    named_option(alloc, "uses", "FILE", USES_HELP).requires_arg("periods")
+}
+
+// What the periods have.
+fn periods_option<'a>(alloc: Global) -> Result<Arg<'a>, AllocError> {
+    named_option(alloc, "periods", "FILE", PERIODS_HELP)
         .requires_arg(USED)?
         .conflicts_with("group")?
-        .conflicts_with("trace")?;
-    let uses = named_option(alloc, "uses", "FILE", USES_HELP).requires_arg("periods")?;
-    Ok(vec![in alloc; periods, uses]?)
+        .conflicts_with("trace")
 }
 
-// The options that say how it is solved, bound the run and show it.
-fn run_options<'a>(alloc: Global) -> Result<Vec<Arg<'a>>, AllocError> {
-    Ok(vec![in alloc;
-        method_option(alloc, METHOD_HELP),
-        group_option(alloc),
-        steps_option(alloc),
-        workers_option(alloc, WORKERS_HELP),
-        progress_option(alloc, PROGRESS_HELP),
-        verbose_solving_option(alloc),
-        named_option(alloc, "trace", "FILE", TRACE_HELP),
-        number_option(alloc, "room", "ROOM", ROOM_HELP),
-    ]?)
+// The options of which one at least has what blocks use.
+fn used_group<'a>(alloc: Global) -> Result<ArgGroup<'a>, AllocError> {
+    let used = ArgGroup::new(alloc, USED).arg("uses")?;
+    Ok(used.arg("blocks")?.multiple(true))
+}
+
+// With the options that say how it is solved and bound the run.
+fn with_run<'a>(
+    alloc: Global,
+    command: Result<Command<'a>, AllocError>,
+) -> Result<Command<'a>, AllocError> {
+    let command = with_arg(command, method_option(alloc, METHOD_HELP));
+    let command = with_arg(command, group_option(alloc));
+    let command = with_arg(command, steps_option(alloc));
+    let command = with_arg(command, workers_option(alloc, WORKERS_HELP));
+    with_arg(command, threads_option(alloc))
+}
+
+// With the options that show the run.
+fn with_shown<'a>(
+    alloc: Global,
+    command: Result<Command<'a>, AllocError>,
+) -> Result<Command<'a>, AllocError> {
+    let command = with_arg(command, progress_option(alloc, PROGRESS_HELP));
+    let command = with_arg(command, verbose_solving_option(alloc));
+    let command = with_arg(command, named_option(alloc, "trace", "FILE", TRACE_HELP));
+    with_arg(command, number_option(alloc, "room", "ROOM", ROOM_HELP))
 }
 
 /// The arguments that were given.
@@ -136,9 +171,11 @@ pub fn solve_args<'a>(matches: &ArgMatches<'a>) -> SolveArgs<'a> {
         group: matches.get_str("group"),
         steps: matches.get_str("steps"),
         workers: matches.get_str("workers"),
+        threads: matches.get_str("threads"),
         trace: matches.get_str("trace"),
         room: matches.get_str("room"),
         periods: matches.get_str("periods"),
+        pit: matches.get_str("pit"),
         uses: matches.get_str("uses"),
         progress: matches.get_flag("progress"),
         verbose: matches.get_flag("verbose"),

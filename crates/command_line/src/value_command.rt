@@ -2,10 +2,10 @@
 //! what it is compared with.
 
 use crate::options::{
-    ModelArgs, STATUSES, file_arg, model_args, model_options, named_option, number_option, text_of,
-    verbose_option, with_options,
+    ModelArgs, command_with_help, factor_unless_best, file_arg, model_args, named_option, text_of,
+    verbose_option, with_arg, with_model, with_option,
 };
-use clap::{Arg, ArgMatches, Command};
+use clap::{ArgMatches, Command};
 use std::alloc::{AllocError, Global};
 
 const ABOUT: &str = "Judges a design: what are its blocks worth, and do they need others?";
@@ -47,24 +47,20 @@ pub struct ValueArgs<'a> {
 
 /// The command.
 pub fn value_command<'a>(alloc: Global) -> Result<Command<'a>, AllocError> {
-    let command = Command::new(alloc, "value")
-        .about(ABOUT)
-        .long_about(DETAILS)
-        .after_help(STATUSES)
-        .override_usage(USAGE);
-    let command = with_options(command, model_options(alloc))?;
-    with_options(command, design_options(alloc))
+    let command = command_with_help(alloc, "value", ABOUT, DETAILS).override_usage(USAGE);
+    with_design(alloc, with_model(alloc, command))
 }
 
-// At what factor the design is judged, with what it is compared, its file, and whether it is told why one failed.
-fn design_options<'a>(alloc: Global) -> Result<Vec<Arg<'a>>, AllocError> {
-    let factor = number_option(alloc, "factor", "FACTOR", FACTOR_HELP)
-        .requires_arg("blocks")?
-        .conflicts_with("upit")?
-        .conflicts_with("best")?;
-    let best = named_option(alloc, "best", "CERT", BEST_HELP);
-    let design = file_arg(alloc, "design", "DESIGN", DESIGN_HELP);
-    Ok(vec![in alloc; factor, best, design, verbose_option(alloc)]?)
+// With the factor at which the design is judged, with what it is compared, its file, and whether it is told why one
+// failed.
+fn with_design<'a>(
+    alloc: Global,
+    command: Result<Command<'a>, AllocError>,
+) -> Result<Command<'a>, AllocError> {
+    let command = with_option(command, factor_unless_best(alloc, FACTOR_HELP));
+    let command = with_arg(command, named_option(alloc, "best", "CERT", BEST_HELP));
+    let command = with_arg(command, file_arg(alloc, "design", "DESIGN", DESIGN_HELP));
+    with_arg(command, verbose_option(alloc))
 }
 
 /// The arguments that were given.

@@ -1,6 +1,7 @@
 //! Declines a request whose option has a value that names nothing: the text says which option, which value, and
 //! what the option takes.
 
+use crate::check_command::check_command;
 use crate::declined::Declined;
 use crate::escaped::Escaped;
 use crate::replay_command::replay_command;
@@ -20,6 +21,8 @@ use std::alloc::{AllocError, Global};
 pub enum Commanded {
     /// `slopes`.
     Slopes,
+    /// `check`.
+    Check,
     /// `solve`.
     Solve,
     /// `replay`.
@@ -49,6 +52,8 @@ pub enum NamedOption<'a> {
     Steps,
     /// `--workers`.
     Workers,
+    /// `--threads`.
+    Threads,
     /// `--room`.
     Room,
     /// `--trace` with the name of an input.
@@ -92,36 +97,72 @@ pub fn declined_for(alloc: Global, wrong: WrongValue<'_>) -> Declined {
 
 fn error_for(alloc: Global, wrong: WrongValue<'_>) -> Result<Error, AllocError> {
     let text = text_for(alloc, wrong)?;
-    let mut command = command_of(alloc, wrong.command)?;
-    command.error(ErrorKind::ValueValidation, text.as_str())
+    error_of(
+        command_of(alloc, wrong.command),
+        name_of(wrong.command),
+        ErrorKind::ValueValidation,
+        text.as_str(),
+    )
+}
+
+/// The error of a command, by the name that its usage shows, where memory wasn't refused for the command.
+pub fn error_of(
+    made: Result<Command<'_>, AllocError>,
+    name: &'static str,
+    kind: ErrorKind,
+    text: &str,
+) -> Result<Error, AllocError> {
+    let mut command = made?.bin_name(name)?;
+    command.error(kind, text)
 }
 
 fn text_for(alloc: Global, wrong: WrongValue<'_>) -> Result<String, AllocError> {
+    let value = Escaped { text: wrong.value };
     let shown = shown(wrong.option);
     let taken = taken(wrong.command, wrong.option);
-    let value = Escaped { text: wrong.value };
     match method_beside(wrong.option) {
-        Some(method) => {
-            format!(in alloc;
-                "invalid value '{value}' for '{shown}': {taken} where --method {method} is given"
-            )
-        }
+        Some(method) => text_beside_method(alloc, value, shown, taken, method),
         None => format!(in alloc; "invalid value '{value}' for '{shown}': {taken}"),
     }
 }
 
-// The command, by the name that its usage shows.
+fn text_beside_method(
+    alloc: Global,
+    value: Escaped<'_>,
+    shown: &str,
+    taken: &str,
+    method: &str,
+) -> Result<String, AllocError> {
+    format!(in alloc;
+        "invalid value '{value}' for '{shown}': {taken} where --method {method} is given"
+    )
+}
+
 fn command_of<'a>(alloc: Global, command: Commanded) -> Result<Command<'a>, AllocError> {
-    let (made, name) = match command {
-        Commanded::Slopes => (slopes_command(alloc), "pit slopes"),
-        Commanded::Solve => (solve_command(alloc), "pit solve"),
-        Commanded::Replay => (replay_command(alloc), "pit replay"),
-        Commanded::Schedule => (schedule_command(alloc), "pit schedule"),
-        Commanded::Value => (value_command(alloc), "pit value"),
-        Commanded::Series(SeriesCommand::Shells) => (shells_command(alloc), "pit shells"),
-        Commanded::Series(SeriesCommand::Report) => (report_command(alloc), "pit report"),
-    };
-    made?.bin_name(name)
+    match command {
+        Commanded::Slopes => slopes_command(alloc),
+        Commanded::Check => check_command(alloc),
+        Commanded::Solve => solve_command(alloc),
+        Commanded::Replay => replay_command(alloc),
+        Commanded::Schedule => schedule_command(alloc),
+        Commanded::Value => value_command(alloc),
+        Commanded::Series(SeriesCommand::Shells) => shells_command(alloc),
+        Commanded::Series(SeriesCommand::Report) => report_command(alloc),
+    }
+}
+
+// The name that a command's usage shows.
+fn name_of(command: Commanded) -> &'static str {
+    match command {
+        Commanded::Slopes => "pit slopes",
+        Commanded::Check => "pit check",
+        Commanded::Solve => "pit solve",
+        Commanded::Replay => "pit replay",
+        Commanded::Schedule => "pit schedule",
+        Commanded::Value => "pit value",
+        Commanded::Series(SeriesCommand::Shells) => "pit shells",
+        Commanded::Series(SeriesCommand::Report) => "pit report",
+    }
 }
 
 // The method that was given, where it leaves the option less to take.
@@ -145,6 +186,7 @@ fn shown(option: NamedOption<'_>) -> &'static str {
         NamedOption::Group | NamedOption::GroupWithoutLock { .. } => "--group <GROUP>",
         NamedOption::Steps => "--steps <STEPS>",
         NamedOption::Workers | NamedOption::WorkersWithoutLock { .. } => "--workers <WORKERS>",
+        NamedOption::Threads => "--threads <THREADS>",
         NamedOption::Room => "--room <ROOM>",
         NamedOption::Trace => "--trace <FILE>",
         NamedOption::ByBlock => "--by-block <FILE>",
@@ -161,7 +203,7 @@ fn taken(command: Commanded, option: NamedOption<'_>) -> &'static str {
         NamedOption::Method => methods(command),
         NamedOption::Group => "pair, scaled or worth",
         NamedOption::Steps => "a whole number from 1 to 1099511627776",
-        NamedOption::Workers => "a whole number from 1 to 64",
+        NamedOption::Workers | NamedOption::Threads => "a whole number from 1 to 64",
         NamedOption::Room => "a whole number from 1 to 16777216",
         NamedOption::Trace => "a file that isn't an input, since the trace replaces what is in it",
         NamedOption::ByBlock =>

@@ -8,21 +8,22 @@ mod progress;
 mod reasons;
 mod series_commands;
 
-use bound_engines::{BoundFault, NodesProblem, PlanAsked, write_nodes_problem};
+use check_engines::{Verdict, status, stored_check, write_fault};
 use command_line::{
     BoundArgs, CheckArgs, Commanded, Declined, OffsetsArgs, ReplayArgs, Request, ScheduleArgs,
     SeriesArgs, SlopesArgs, SolveArgs, ValueArgs, WrongValue, declined_for, request_of,
 };
+use counted_devices::Counted;
 use design_engines::{DesignProblem, ValueFault, write_problem};
-use engines::{EngineFault, Unwatched, Verdict, status, stored_check, write_fault};
-use fixed_worth::Counted;
-use mine_inputs::Problem;
+use engine_faults::{EngineFault, Problem};
 use pit_commands::{
     SolveWay, bound_files, check_files, effort_for_series, effort_over_periods, factor_asked,
     listed_slopes_files, pattern_asked, replay_asked, replay_files, schedule_factor_asked,
     schedule_files, slopes_file, solve_files, solve_plan_files, solve_way, table_over_an_input,
-    up_asked, value_factor_asked, value_files,
+    threads_asked, up_asked, value_factor_asked, value_files,
 };
+use plan_engines::PlanAsked;
+use planned_mine::{BoundFault, NodesProblem, write_nodes_problem};
 use progress::{Meter, PROGRESS_ALONE, Tells};
 use reasons::{advise_on_workers, tell_choice, tell_slope_reason};
 use schedule_engines::{
@@ -31,6 +32,7 @@ use schedule_engines::{
 use series_commands::series_files;
 use settings_file::{Key, SettingsFault};
 use shells::Factor;
+use solve_engines::Unwatched;
 use std::process::ExitCode;
 use std::rt::{Clock, Env, Files};
 use std::sync::Wait;
@@ -57,6 +59,26 @@ enum Ending {
     NoPrecedence(EngineFault),
     // A help text or the version was printed, or what is wrong with the arguments; with this exit status.
     Printed(u8),
+}
+
+// Why nothing is answered.
+#[derive(Clone, Copy)]
+enum Stop<'a> {
+    Fault(EngineFault),
+    // A value names nothing that its option takes.
+    Wrong(WrongValue<'a>),
+}
+
+impl<'a> From<EngineFault> for Stop<'a> {
+    fn from(fault: EngineFault) -> Stop<'a> {
+        Stop::Fault(fault)
+    }
+}
+
+impl<'a> From<WrongValue<'a>> for Stop<'a> {
+    fn from(wrong: WrongValue<'a>) -> Stop<'a> {
+        Stop::Wrong(wrong)
+    }
 }
 
 fn main(rt: HostRuntime) -> ExitCode {
@@ -118,25 +140,27 @@ fn answered<R: Files + Print + Eprint + Clock + Threads + Wait + Sync + AllocGlo
     request: Request<'_>,
 ) -> Result<Ending, EngineFault> {
     let verbose = is_verbose(&request);
+    let writes_slopes = matches!(request, Request::Slopes(_));
     let answer = match request {
         Request::Bound(args) => bound(rt, args),
         Request::Check(args) => check(rt, args),
         Request::Replay(args) => replay(rt, args),
         Request::Solve(args) => solve(rt, args),
         Request::Series(args) => series(rt, args),
-        Request::Slopes(args) => return slopes(rt, args),
+        Request::Slopes(args) => slopes(rt, args),
         Request::Value(args) => value(rt, args),
         Request::Schedule(args) => schedule(rt, args),
     };
     match answer {
-        Err(fault) => {
+        Ok(ending) => Ok(ending),
+        Err(Stop::Wrong(wrong)) => printed(rt, &declined_for(rt.alloc(), wrong)),
+        Err(Stop::Fault(fault)) => {
             tell_slope_reason(rt, verbose, fault);
-            if is_want_of_slopes(fault) {
+            if is_want_of_slopes(fault) && !writes_slopes {
                 return Ok(Ending::NoPrecedence(fault));
             }
             Err(fault)
         }
-        answer => answer,
     }
 }
 
@@ -163,25 +187,23 @@ fn is_want_of_slopes(fault: EngineFault) -> bool {
 }
 
 // Checks a certificate over the mine of files.
-fn check<R: Files + Print + Eprint + Threads + Sync + AllocGlobal>(
-    rt: &R,
-    args: CheckArgs<'_>,
-) -> Result<Ending, EngineFault> {
-    Ok(Ending::Answered(check_files(rt, args)?))
+fn check<'a, R: Files + Print + Eprint + Threads + Sync + AllocGlobal>(
+    rt: &'a R,
+    args: CheckArgs<'a>,
+) -> Result<Ending, Stop<'a>> {
+    let threads = threads_asked(Commanded::Check, args.threads)?;
+    Ok(Ending::Answered(check_files(rt, args, threads)?))
 }
 
 // Solves a mine, and tells how far it is where that is asked for.
-fn solve<R: Files + Print + Eprint + Clock + Threads + Wait + Sync + AllocGlobal>(
-    rt: &R,
-    args: SolveArgs<'_>,
-) -> Result<Ending, EngineFault> {
+fn solve<'a, R: Files + Print + Eprint + Clock + Threads + Wait + Sync + AllocGlobal>(
+    rt: &'a R,
+    args: SolveArgs<'a>,
+) -> Result<Ending, Stop<'a>> {
     if let Some(periods) = args.periods {
         return solve_plan(rt, args, periods);
     }
-    let way = match solve_way(args) {
-        Ok(way) => way,
-        Err(wrong) => return refused(rt, wrong),
-    };
+    let way = solve_way(args)?;
     tell_choice(
         rt,
         args.verbose && args.trace.is_none(),
@@ -189,10 +211,9 @@ fn solve<R: Files + Print + Eprint + Clock + Threads + Wait + Sync + AllocGlobal
         args.steps,
     );
     advise_on_workers(rt, args.verbose, way);
-    match factor_asked(Commanded::Solve, args.model, args.factor) {
-        Ok(factor) => Ok(Ending::Answered(solved(rt, args, way, factor)?)),
-        Err(wrong) => refused(rt, wrong),
-    }
+    let factor = factor_asked(Commanded::Solve, args.model, args.factor)?;
+    let threads = threads_asked(Commanded::Solve, args.threads)?;
+    Ok(Ending::Answered(solved(rt, args, way, factor, threads)?))
 }
 
 fn solved<R: Files + Print + Eprint + Clock + Threads + Wait + Sync + AllocGlobal>(
@@ -200,6 +221,7 @@ fn solved<R: Files + Print + Eprint + Clock + Threads + Wait + Sync + AllocGloba
     args: SolveArgs<'_>,
     way: SolveWay<'_>,
     factor: Factor,
+    threads: Option<u32>,
 ) -> Result<Verdict, EngineFault> {
     let tells = Tells {
         progress: args.progress,
@@ -207,85 +229,72 @@ fn solved<R: Files + Print + Eprint + Clock + Threads + Wait + Sync + AllocGloba
     };
     if args.progress || args.verbose {
         let meter = Meter::new(rt, way.steps(), tells);
-        solve_files(rt, args, way, factor, &meter)
+        solve_files(rt, args, way, factor, threads, &meter)
     } else {
-        solve_files(rt, args, way, factor, &Unwatched)
+        solve_files(rt, args, way, factor, threads, &Unwatched)
     }
 }
 
 // Solves the mine of blocks and periods, and tells how far it is where that is asked for.
-fn solve_plan<R: Files + Print + Eprint + Clock + Threads + Wait + Sync + AllocGlobal>(
-    rt: &R,
-    args: SolveArgs<'_>,
-    periods: &str,
-) -> Result<Ending, EngineFault> {
-    let effort = match effort_over_periods(args) {
-        Ok(effort) => effort,
-        Err(wrong) => return refused(rt, wrong),
-    };
-    let factor = match factor_asked(Commanded::Solve, args.model, args.factor) {
-        Ok(factor) => factor,
-        Err(wrong) => return refused(rt, wrong),
-    };
+fn solve_plan<'a, R: Files + Print + Eprint + Clock + Threads + Wait + Sync + AllocGlobal>(
+    rt: &'a R,
+    args: SolveArgs<'a>,
+    periods: &'a str,
+) -> Result<Ending, Stop<'a>> {
+    let effort = effort_over_periods(args)?;
+    let factor = factor_asked(Commanded::Solve, args.model, args.factor)?;
+    let threads = threads_asked(Commanded::Solve, args.threads)?;
     tell_choice(rt, args.verbose, args.method, args.steps);
     let asked = PlanAsked { factor, effort };
     bounded(if args.progress {
         let meter = Meter::new(rt, effort.steps, PROGRESS_ALONE);
-        solve_plan_files(rt, args, periods, asked, &meter)
+        solve_plan_files(rt, args, periods, asked, threads, &meter)
     } else {
-        solve_plan_files(rt, args, periods, asked, &Unwatched)
+        solve_plan_files(rt, args, periods, asked, threads, &Unwatched)
     })
 }
 
 // Repeats a run over the mine of files from its trace.
-fn replay<R: Files + Print + Eprint + Threads + Sync + AllocGlobal>(
-    rt: &R,
-    args: ReplayArgs<'_>,
-) -> Result<Ending, EngineFault> {
-    match replay_asked(args) {
-        Ok(asked) => Ok(Ending::Answered(replay_files(rt, args, asked)?)),
-        Err(wrong) => refused(rt, wrong),
-    }
+fn replay<'a, R: Files + Print + Eprint + Threads + Sync + AllocGlobal>(
+    rt: &'a R,
+    args: ReplayArgs<'a>,
+) -> Result<Ending, Stop<'a>> {
+    let asked = replay_asked(args)?;
+    Ok(Ending::Answered(replay_files(rt, args, asked)?))
 }
 
 // Judges a design over the mine of files.
-fn value<R: Files + Print + Eprint + Threads + Sync + AllocGlobal>(
-    rt: &R,
-    args: ValueArgs<'_>,
-) -> Result<Ending, EngineFault> {
-    let factor = match value_factor_asked(args) {
-        Ok(factor) => factor,
-        Err(wrong) => return refused(rt, wrong),
-    };
+fn value<'a, R: Files + Print + Eprint + Threads + Sync + AllocGlobal>(
+    rt: &'a R,
+    args: ValueArgs<'a>,
+) -> Result<Ending, Stop<'a>> {
+    let factor = value_factor_asked(args)?;
     match value_files(rt, args, factor) {
         Ok(verdict) => Ok(Ending::Answered(verdict)),
         Err(ValueFault::Design(problem)) => Ok(Ending::BadDesign(problem)),
-        Err(ValueFault::Engine(fault)) => Err(fault),
+        Err(ValueFault::Engine(fault)) => Err(Stop::Fault(fault)),
     }
 }
 
 // Judges a schedule over the mine of files and its periods.
-fn schedule<R: Files + Print + Eprint + Threads + Sync + AllocGlobal>(
-    rt: &R,
-    args: ScheduleArgs<'_>,
-) -> Result<Ending, EngineFault> {
-    let factor = match schedule_factor_asked(args) {
-        Ok(factor) => factor,
-        Err(wrong) => return refused(rt, wrong),
-    };
+fn schedule<'a, R: Files + Print + Eprint + Threads + Sync + AllocGlobal>(
+    rt: &'a R,
+    args: ScheduleArgs<'a>,
+) -> Result<Ending, Stop<'a>> {
+    let factor = schedule_factor_asked(args)?;
     bounded(schedule_files(rt, args, factor))
 }
 
 // Bounds the worth of every schedule of the mine of files and its periods.
-fn bound<R: Files + Print + Eprint + Threads + Sync + AllocGlobal>(
-    rt: &R,
-    args: BoundArgs<'_>,
-) -> Result<Ending, EngineFault> {
+fn bound<'a, R: Files + Print + Eprint + Threads + Sync + AllocGlobal>(
+    rt: &'a R,
+    args: BoundArgs<'a>,
+) -> Result<Ending, Stop<'a>> {
     bounded(bound_files(rt, args))
 }
 
 // How the program ends with an answer of the mine of blocks and periods.
-fn bounded(answer: Result<Verdict, BoundFault>) -> Result<Ending, EngineFault> {
+fn bounded<'a>(answer: Result<Verdict, BoundFault>) -> Result<Ending, Stop<'a>> {
     match answer {
         Ok(verdict) => Ok(Ending::Answered(verdict)),
         Err(BoundFault::Nodes(problem)) => Ok(Ending::BadNodes(problem)),
@@ -294,26 +303,23 @@ fn bounded(answer: Result<Verdict, BoundFault>) -> Result<Ending, EngineFault> {
 }
 
 // How the program ends at a fault of a plan.
-fn unplanned(fault: PlanFault) -> Result<Ending, EngineFault> {
+fn unplanned<'a>(fault: PlanFault) -> Result<Ending, Stop<'a>> {
     match fault {
         PlanFault::Periods(problem) => Ok(Ending::BadPeriods(problem)),
         PlanFault::Schedule(problem) => Ok(Ending::BadSchedule(problem)),
-        PlanFault::Engine(fault) => Err(fault),
+        PlanFault::Engine(fault) => Err(Stop::Fault(fault)),
     }
 }
 
 // Draws the shells of the mine of three files or makes its bench table, and tells how far it is where that is asked
 // for.
-fn series<R: Files + Print + Eprint + Clock + Threads + Wait + Sync + AllocGlobal>(
-    rt: &R,
-    args: SeriesArgs<'_>,
-) -> Result<Ending, EngineFault> {
-    let effort = match effort_for_series(args) {
-        Ok(effort) => effort,
-        Err(wrong) => return refused(rt, wrong),
-    };
+fn series<'a, R: Files + Print + Eprint + Clock + Threads + Wait + Sync + AllocGlobal>(
+    rt: &'a R,
+    args: SeriesArgs<'a>,
+) -> Result<Ending, Stop<'a>> {
+    let effort = effort_for_series(args)?;
     if let Some(wrong) = table_over_an_input(args) {
-        return refused(rt, wrong);
+        return Err(Stop::Wrong(wrong));
     }
     tell_choice(rt, args.verbose, args.method, args.steps);
     let verdict = if args.progress {
@@ -330,33 +336,18 @@ fn series<R: Files + Print + Eprint + Clock + Threads + Wait + Sync + AllocGloba
 }
 
 // Writes the predecessors of the blocks of a file, by a pattern or by the offsets of settings.
-fn slopes<R: Files + Print + Eprint + AllocGlobal>(
-    rt: &R,
-    args: SlopesArgs<'_>,
-) -> Result<Ending, EngineFault> {
-    let up = match up_asked(args) {
-        Ok(up) => up,
-        Err(wrong) => return refused(rt, wrong),
-    };
-    let answer = match args.offsets {
-        OffsetsArgs::Pattern(name) => match pattern_asked(name) {
-            Ok(pattern) => slopes_file(rt, args, pattern, up),
-            Err(wrong) => return refused(rt, wrong),
-        },
-        OffsetsArgs::Settings(settings) => listed_slopes_files(rt, args, settings, up),
-    };
-    if let Err(fault) = answer {
-        tell_slope_reason(rt, args.verbose, fault);
-    }
-    Ok(Ending::Answered(answer?))
-}
-
-// A value names nothing that its option takes.
-fn refused<R: Print + Eprint + AllocGlobal>(
-    rt: &R,
-    wrong: WrongValue<'_>,
-) -> Result<Ending, EngineFault> {
-    printed(rt, &declined_for(rt.alloc(), wrong))
+fn slopes<'a, R: Files + Print + Eprint + AllocGlobal>(
+    rt: &'a R,
+    args: SlopesArgs<'a>,
+) -> Result<Ending, Stop<'a>> {
+    let up = up_asked(args)?;
+    Ok(Ending::Answered(match args.offsets {
+        OffsetsArgs::Pattern(name) => {
+            let pattern = pattern_asked(name)?;
+            slopes_file(rt, args, pattern, up)?
+        }
+        OffsetsArgs::Settings(settings) => listed_slopes_files(rt, args, settings, up)?,
+    }))
 }
 
 // The arguments are no request, and the reason is printed, or the help or version that they ask for.

@@ -1,10 +1,10 @@
 //! Tells the user on standard error, at most once a second, how far a run is, and at its end how many blocks the
 //! proved pit has and what it is worth.
 
-use engines::Outcome;
 use fixed_worth::Nanos;
 use pseudoflow::Progress;
-use shell_engines::SeriesProgress;
+use series_pits::SeriesProgress;
+use solve_engines::Outcome;
 use std::rt::Clock;
 use std::sync::atomic::{AtomicU64, Ordering};
 use std::time::Instant;

@@ -1,8 +1,10 @@
 //! What arguments and an answer leave open, told on standard error where that is asked for.
 
-use engines::{EngineFault, Method, SlopeProblem};
+use engine_faults::{EngineFault, SlopeProblem};
+use option_words::Method;
 use pit_commands::SolveWay;
-use slope::{PatternFault, RegionFault, SlopeFault};
+use slope::{RegionFault, SlopeFault};
+use slope_offsets::PatternFault;
 
 /// Tells that steps have chosen push-relabel, where no method is given beside them.
 pub fn tell_choice<R: Eprint>(rt: &R, is_asked: bool, method: Option<&str>, steps: Option<&str>) {

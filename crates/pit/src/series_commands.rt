@@ -3,13 +3,18 @@
 ghost use Rattle.std.specs.Prelude.{◌≡◌, IfOk};
 ghost use Rattle.shell_engines.specs.Devices.{InputsCanCount, OutputsCanCount, failures_in};
 
+use check_engines::Verdict;
 use command_line::{SeriesArgs, SeriesCommand};
-use engines::{Effort, EngineFault, Verdict};
-use fixed_worth::Counted;
-use pit_files::{Heard, Replaced, Told, advice_for_series, make_file, open_file, output};
+use counted_devices::Counted;
+use engine_faults::EngineFault;
+use option_words::Effort;
+use pit_files::{
+    InputNotes, Replaced, ReportingFile, advice_for_series, make_file, open_file, output,
+};
 use pseudoflow::Progress;
 use report_engines::report_engine;
-use shell_engines::{SeriesInputs, SeriesOutputs, SeriesProgress, shells_engine};
+use series_pits::SeriesProgress;
+use shell_engines::{SeriesInputs, SeriesOutputs, shells_engine};
 use std::io::Printer;
 use std::rt::Files;
 use std::sync::Wait;
@@ -22,12 +27,29 @@ pub fn series_files<
     R: Files + Print + Eprint + Threads + Wait + Sync + AllocGlobal,
     T: Gate + Progress + SeriesProgress,
 >(rt: &'a R, args: SeriesArgs<'a>, effort: Effort, watch: &T) -> Result<Verdict, EngineFault> {
-    let alloc = rt.alloc();
     let mut inputs = open_series(rt, args)?;
+    series_over(rt, args, effort, watch, &mut inputs)
+}
+
+// Does the same over the files of a mine.
+fn series_over<
+    'a,
+    R: Files + Print + Eprint + Threads + Wait + Sync + AllocGlobal,
+    T: Gate + Progress + SeriesProgress,
+>(
+    rt: &'a R,
+    args: SeriesArgs<'a>,
+    effort: Effort,
+    watch: &T,
+    inputs: &mut SeriesInputs<Counted<ReportingFile<'a, R, R::File>>>,
+) -> Result<Verdict, EngineFault>
+    requires { InputsCanCount inputs.old (λ device. device.failures) }
+{
+    let alloc = rt.alloc();
     let mut outputs = make_outputs(rt, args)?;
     match args.command {
-        SeriesCommand::Shells => shells_engine(rt, alloc, &mut inputs, effort, watch, &mut outputs),
-        SeriesCommand::Report => report_engine(rt, alloc, &mut inputs, effort, watch, &mut outputs),
+        SeriesCommand::Shells => shells_engine(rt, alloc, inputs, effort, watch, &mut outputs),
+        SeriesCommand::Report => report_engine(rt, alloc, inputs, effort, watch, &mut outputs),
     }
 }
 
@@ -35,17 +57,17 @@ pub fn series_files<
 fn open_series<'a, R: Files + Eprint + AllocGlobal>(
     rt: &'a R,
     args: SeriesArgs<'a>,
-) -> Result<SeriesInputs<Counted<Told<'a, R, R::File>>>, EngineFault>
+) -> Result<SeriesInputs<Counted<ReportingFile<'a, R, R::File>>>, EngineFault>
     ensures { IfOk result (λ inputs. InputsCanCount inputs (λ device. device.failures)) }
 {
     let alloc = rt.alloc();
     let prec = open_if_named(rt, args.verbose, args.prec)?;
     let heard = match args.prec {
-        Some(_) => Heard::of_settings(alloc, args.verbose, None),
-        None => Heard::of_sloped_settings(alloc, args.verbose),
+        Some(_) => InputNotes::of_settings(alloc, args.verbose, None),
+        None => InputNotes::of_sloped_settings(alloc, args.verbose),
     };
     let settings = open_file(rt, args.verbose, args.settings, heard)?;
-    let blocks = open_file(rt, args.verbose, args.blocks, Heard::nothing(alloc))?;
+    let blocks = open_file(rt, args.verbose, args.blocks, InputNotes::nothing(alloc))?;
     Ok(SeriesInputs {
         settings,
         blocks,
@@ -58,11 +80,11 @@ fn open_if_named<'a, R: Files + Eprint + AllocGlobal>(
     rt: &'a R,
     verbose: bool,
     name: Option<&'a str>,
-) -> Result<Option<Counted<Told<'a, R, R::File>>>, EngineFault>
+) -> Result<Option<Counted<ReportingFile<'a, R, R::File>>>, EngineFault>
     ensures { IfOk result (λ opened. failures_in opened (λ device. device.failures) ≡ 0) }
 {
     match name {
-        Some(name) => Ok(Some(open_file(rt, verbose, name, Heard::nothing(rt.alloc()))?)),
+        Some(name) => Ok(Some(open_file(rt, verbose, name, InputNotes::nothing(rt.alloc()))?)),
         None => Ok(None),
     }
 }
@@ -72,7 +94,10 @@ fn make_outputs<'a, R: Files + Print + Eprint + AllocGlobal>(
     rt: &'a R,
     args: SeriesArgs<'a>,
 ) -> Result<
-    SeriesOutputs<Counted<Told<'a, R, Replaced<R::File>>>, Counted<Told<'a, R, Printer<'a, R>>>>,
+    SeriesOutputs<
+        Counted<ReportingFile<'a, R, Replaced<R::File>>>,
+        Counted<ReportingFile<'a, R, Printer<'a, R>>>,
+    >,
     EngineFault,
 >
     ensures { IfOk result (λ outputs. OutputsCanCount outputs
@@ -93,7 +118,7 @@ fn make_file_if_named<'a, R: Files + Eprint + AllocGlobal>(
     rt: &'a R,
     verbose: bool,
     name: Option<&'a str>,
-) -> Result<Option<Counted<Told<'a, R, Replaced<R::File>>>>, EngineFault>
+) -> Result<Option<Counted<ReportingFile<'a, R, Replaced<R::File>>>>, EngineFault>
     ensures { IfOk result (λ made. failures_in made (λ device. device.failures) ≡ 0) }
 {
     match name {

@@ -4,7 +4,7 @@
 use crate::solve_args::{effort_asked, method_asked};
 use crate::wrong;
 use command_line::{Commanded, NamedOption, SeriesArgs, WrongValue};
-use engines::Effort;
+use option_words::Effort;
 
 /// How `shells` and `report` solve the mine at each factor.
 ///

@@ -1,12 +1,12 @@
 //! What the arguments of `slopes` ask for, or the value that names nothing that there is.
 
 ghost use Rattle.std.specs.Prelude.{IfOk};
-ghost use Rattle.engines.specs.Slopes.{IsChoice};
+ghost use Rattle.option_words.specs.PatternWords.{IsChoice};
 
 use crate::wrong;
 use command_line::{Commanded, NamedOption, SlopesArgs, WrongValue};
-use engines::{PatternChoice, pattern_named, up_named};
-use slope::{Selection, Up};
+use option_words::{PatternChoice, pattern_named, up_named};
+use slope_offsets::{Selection, Up};
 
 /// Which blocks above a block are its predecessors, by the name of a pattern.
 ///

@@ -6,10 +6,10 @@ ghost use Rattle.std.specs.Prelude.{◌≤◌, IfOk};
 use crate::wrong;
 use async_step::MOST_STEPS;
 use command_line::{Commanded, ModelArgs, NamedOption, SolveArgs, WrongValue};
-use engines::{
+use lock_free_engine::{LockFreeEffort, names_lock_free};
+use option_words::{
     Effort, Method, factor_named, group_named, method_named, steps_named, workers_named,
 };
-use lock_free_engine::{LockFreeEffort, names_lock_free};
 use ordered_group::Group;
 use shells::Factor;
 use traced_engine::room_named;
@@ -120,10 +120,10 @@ fn way_without_lock<'a>(
     }
 }
 
-/// How `solve` solves the mine by a method.
-///
-/// # Errors
-/// The value that names nothing, with its option.
+// How `solve` solves the mine by a method.
+//
+// # Errors
+// The value that names nothing, with its option.
 fn effort_to_solve<'a>(args: SolveArgs<'a>, method: Method) -> Result<Effort, WrongValue<'a>> {
     effort_asked(Commanded::Solve, method, args.steps, args.workers)
 }
@@ -141,10 +141,10 @@ pub fn effort_over_periods<'a>(args: SolveArgs<'a>) -> Result<Effort, WrongValue
     }
 }
 
-/// How much a run of `solve` without a lock may use: it has one worker or two.
-///
-/// # Errors
-/// The value that names nothing, with its option.
+// How much a run of `solve` without a lock may use: it has one worker or two.
+//
+// # Errors
+// The value that names nothing, with its option.
 fn effort_without_lock<'a>(args: SolveArgs<'a>) -> Result<LockFreeEffort, WrongValue<'a>> {
     let workers = workers_asked(Commanded::Solve, args.workers)?;
     let steps = steps_asked(Commanded::Solve, args.steps)?;
@@ -219,10 +219,10 @@ fn workers_asked<'a>(command: Commanded, value: Option<&'a str>) -> Result<u32, 
 }
 
 // The trace, where one is asked for beside a method: of the push-relabel machine alone, so that pseudoflow can't be
-/// asked for beside it. It would replace an input whose name it has.
-///
-/// # Errors
-/// The value that names nothing, with its option.
+// asked for beside it. It would replace an input whose name it has.
+//
+// # Errors
+// The value that names nothing, with its option.
 fn trace_asked<'a>(
     args: SolveArgs<'a>,
     method: Method,
@@ -239,10 +239,10 @@ fn trace_asked<'a>(
     }
 }
 
-/// The most steps of a trace.
-///
-/// # Errors
-/// The value that names nothing, with its option.
+// The most steps of a trace.
+//
+// # Errors
+// The value that names nothing, with its option.
 fn room_asked<'a>(args: SolveArgs<'a>) -> Result<u32, WrongValue<'a>> {
     match args.room {
         Some(value) => room_named(value.as_bytes()).ok_or(wrong(

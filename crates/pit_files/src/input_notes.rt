@@ -18,16 +18,21 @@ enum Topic {
 /// What was read of an input, as far as it is told of. It has the same parts whatever that is, so that there is one way
 /// to give it back: a command has several inputs, and gives each back wherever it ends early.
 #[derive(Drop)]
-pub struct Heard<'a> {
+pub struct InputNotes<'a> {
     topic: Topic,
     text: KeptText<'a>,
     bound: PairsBound<'a>,
 }
 
-impl<'a> Heard<'a> {
+impl<'a> InputNotes<'a> {
     // What was read of this, if anything is told of it.
-    fn of(topic: Topic, is_told: bool, text: KeptText<'a>, bound: PairsBound<'a>) -> Heard<'a> {
-        Heard {
+    fn of(
+        topic: Topic,
+        is_told: bool,
+        text: KeptText<'a>,
+        bound: PairsBound<'a>,
+    ) -> InputNotes<'a> {
+        InputNotes {
             topic: if is_told { topic } else { Topic::Nothing },
             text,
             bound,
@@ -35,27 +40,31 @@ impl<'a> Heard<'a> {
     }
 
     /// Nothing is told.
-    pub fn nothing(alloc: Global) -> Heard<'a> {
+    pub fn nothing(alloc: Global) -> InputNotes<'a> {
         let text = KeptText::new(alloc, None);
-        Heard::of(Topic::Nothing, false, text, PairsBound::new(None))
+        InputNotes::of(Topic::Nothing, false, text, PairsBound::new(None))
     }
 
     /// Of settings, if anything is told: why they are refused.
-    pub fn of_settings(alloc: Global, is_told: bool, offsets: Option<&'a AtomicU64>) -> Heard<'a> {
+    pub fn of_settings(
+        alloc: Global,
+        is_told: bool,
+        offsets: Option<&'a AtomicU64>,
+    ) -> InputNotes<'a> {
         let text = KeptText::new(alloc, offsets);
-        Heard::of(Topic::Settings, is_told, text, PairsBound::new(None))
+        InputNotes::of(Topic::Settings, is_told, text, PairsBound::new(None))
     }
 
     /// Of settings whose slopes are used, if anything is told: why they are refused.
-    pub fn of_sloped_settings(alloc: Global, is_told: bool) -> Heard<'a> {
+    pub fn of_sloped_settings(alloc: Global, is_told: bool) -> InputNotes<'a> {
         let text = KeptText::of_slopes(alloc);
-        Heard::of(Topic::Settings, is_told, text, PairsBound::new(None))
+        InputNotes::of(Topic::Settings, is_told, text, PairsBound::new(None))
     }
 
     /// Of blocks, if anything is told: how many pairs their slopes may give.
-    pub fn of_blocks(alloc: Global, is_told: bool, offsets: &'a AtomicU64) -> Heard<'a> {
+    pub fn of_blocks(alloc: Global, is_told: bool, offsets: &'a AtomicU64) -> InputNotes<'a> {
         let text = KeptText::new(alloc, None);
-        Heard::of(Topic::Blocks, is_told, text, PairsBound::new(Some(offsets)))
+        InputNotes::of(Topic::Blocks, is_told, text, PairsBound::new(Some(offsets)))
     }
 
     /// Takes in further bytes.

@@ -1,10 +1,10 @@
 //! How many pairs a slope may give, told once its blocks are read and before the pairs are looked for.
 
-ghost use Rattle.engines.specs.Slopes.{IsChoice};
+ghost use Rattle.option_words.specs.PatternWords.{IsChoice};
 
-use engines::PatternChoice;
+use option_words::PatternChoice;
 use prec_file::MOST_PAIRS;
-use slope::Pattern;
+use slope_offsets::Pattern;
 use std::alloc::Global;
 use std::sync::atomic::{AtomicU64, Ordering};
 

@@ -3,11 +3,11 @@
 ghost use Rattle.std.specs.Prelude.{◌≡◌, IfOk};
 
 use crate::advice::Advice;
-use crate::input_notes::Heard;
+use crate::input_notes::InputNotes;
 use crate::replaced::{Replaced, open_replaced};
 use command_line::Escaped;
-use engines::EngineFault;
-use fixed_worth::Counted;
+use counted_devices::Counted;
+use engine_faults::EngineFault;
 use std::fs::File;
 use std::io;
 use std::io::{Printer, Read, Write};
@@ -18,7 +18,7 @@ use std::rt::Files;
 /// reason for each call that fails, whose failure is handed on; a file that begins with the mark of UTF-8; and, for the
 /// output of a command that solves, what to try where the line says that no pit is proved.
 #[derive(Drop)]
-pub struct Told<'a, R, D> {
+pub struct ReportingFile<'a, R, D> {
     rt: &'a R,
     verbose: bool,
     name: &'a str,
@@ -27,10 +27,10 @@ pub struct Told<'a, R, D> {
     // whether something was read
     is_begun: bool,
     // what is told at the end of what is read
-    heard: Heard<'a>,
+    heard: InputNotes<'a>,
 }
 
-impl<'a, R, D> Told<'a, R, D> {
+impl<'a, R, D> ReportingFile<'a, R, D> {
     // Nothing is read or written yet.
     fn new(
         rt: &'a R,
@@ -38,9 +38,9 @@ impl<'a, R, D> Told<'a, R, D> {
         name: &'a str,
         advice: Option<Advice>,
         device: D,
-        heard: Heard<'a>,
-    ) -> Told<'a, R, D> {
-        Told {
+        heard: InputNotes<'a>,
+    ) -> ReportingFile<'a, R, D> {
+        ReportingFile {
             rt,
             verbose,
             name,
@@ -60,9 +60,9 @@ pub fn output<'a, R: Print + Eprint + AllocGlobal>(
     rt: &'a R,
     verbose: bool,
     advice: Option<Advice>,
-) -> Told<'a, R, Printer<'a, R>> {
-    let heard = Heard::nothing(rt.alloc());
-    Told::new(
+) -> ReportingFile<'a, R, Printer<'a, R>> {
+    let heard = InputNotes::nothing(rt.alloc());
+    ReportingFile::new(
         rt,
         verbose,
         "standard output",
@@ -80,12 +80,12 @@ pub fn open_file<'a, R: Files + Eprint>(
     rt: &'a R,
     verbose: bool,
     name: &'a str,
-    heard: Heard<'a>,
-) -> Result<Counted<Told<'a, R, R::File>>, EngineFault>
+    heard: InputNotes<'a>,
+) -> Result<Counted<ReportingFile<'a, R, R::File>>, EngineFault>
     ensures { IfOk result (λ counted. counted.failures ≡ 0) }
 {
     match File::open(rt, name) {
-        Ok(device) => Ok(Counted::new(Told::new(rt, verbose, name, None, device, heard))),
+        Ok(device) => Ok(Counted::new(ReportingFile::new(rt, verbose, name, None, device, heard))),
         Err(error) => {
             tell(rt, verbose, "open", name, error);
             Err(EngineFault::Device)
@@ -102,13 +102,13 @@ pub fn make_file<'a, R: Files + Eprint + AllocGlobal>(
     rt: &'a R,
     verbose: bool,
     name: &'a str,
-) -> Result<Counted<Told<'a, R, Replaced<R::File>>>, EngineFault>
+) -> Result<Counted<ReportingFile<'a, R, Replaced<R::File>>>, EngineFault>
     ensures { IfOk result (λ counted. counted.failures ≡ 0) }
 {
     match open_replaced(rt, name) {
         Ok(device) => {
-            let heard = Heard::nothing(rt.alloc());
-            Ok(Counted::new(Told::new(rt, verbose, name, None, device, heard)))
+            let heard = InputNotes::nothing(rt.alloc());
+            Ok(Counted::new(ReportingFile::new(rt, verbose, name, None, device, heard)))
         }
         Err(error) => {
             tell(rt, verbose, "make", name, error);
@@ -117,7 +117,7 @@ pub fn make_file<'a, R: Files + Eprint + AllocGlobal>(
     }
 }
 
-impl<R: Eprint + AllocGlobal, D: Read> Read for Told<'_, R, D> {
+impl<R: Eprint + AllocGlobal, D: Read> Read for ReportingFile<'_, R, D> {
     ghost remaining = { λ t. D.remaining t.device };
 
     fn read(&mut self, buf: &mut [u8]) -> io::Result<usize> {
@@ -139,7 +139,7 @@ impl<R: Eprint + AllocGlobal, D: Read> Read for Told<'_, R, D> {
     }
 }
 
-impl<R: Eprint + AllocGlobal, D> Told<'_, R, D> {
+impl<R: Eprint + AllocGlobal, D> ReportingFile<'_, R, D> {
     // Takes in what was read, and tells at its end what there is to tell.
     fn hear(&mut self, read: &[u8])
         ensures { self.new.device ≡ self.old.device }
@@ -152,7 +152,7 @@ impl<R: Eprint + AllocGlobal, D> Told<'_, R, D> {
     }
 }
 
-impl<R: Eprint, D: Write> Write for Told<'_, R, D> {
+impl<R: Eprint, D: Write> Write for ReportingFile<'_, R, D> {
     ghost contents = { λ t. D.contents t.device };
 
     fn write(&mut self, buf: &[u8]) -> io::Result<usize> {
