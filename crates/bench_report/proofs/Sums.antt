@@ -1,12 +1,14 @@
 -- Sets of blocks, block by block.
-use Rattle.fixed_worth.proofs.Common.{◌≡◌, ℕ, zero, suc, ◌+◌, ◌<◌, ℤ, pos, ◌+ℤ◌, Bool, true, false, cond, refl, ap, ◌∙◌, arith, inl, inr, ints, cases_lt}
+use Rattle.fixed_worth.proofs.Common.{◌≡◌, ℕ, zero, suc, ◌+◌, ◌<◌, ℤ, pos, ◌+ℤ◌, Bool, true, false, cond, refl, ap, ◌∙◌}
+use Rattle.fixed_worth.proofs.Common.{arith, inl, inr, ints, cases_lt}
 use Rattle.ordered_group.specs.Sets.{worth_in, count_in}
 
 pub plus-none : (x : ℤ) → x +ℤ pos 0 ≡ x
 plus-none x = omega (arith, ints)
 
 -- a set of no blocks is worth nothing
-none_step : (v : ℕ → ℤ) (e : ℕ → Bool) (n : ℕ) (t : Bool) → worth_in v e n ≡ pos 0 → count_in e n + cond t 1 0 ≡ 0 → worth_in v e n +ℤ cond t (v n) (pos 0) ≡ pos 0
+none_step : (v : ℕ → ℤ) (e : ℕ → Bool) (n : ℕ) (t : Bool) → worth_in v e n ≡ pos 0 → count_in e n + cond t 1 0 ≡ 0
+    → worth_in v e n +ℤ cond t (v n) (pos 0) ≡ pos 0
 none_step v e n true i h = absurd (omega (arith, h))
 none_step v e n false i h = omega (arith, ints, i)
 
@@ -31,7 +33,8 @@ some_blocks e (suc n) b l h = elim (cases_lt b n) [
 ]
 
 -- and where it has some, one of them is its last
-last_step : (e : ℕ → Bool) (n : ℕ) (t : Bool) → e n ≡ t → 0 < count_in e n + cond t 1 0 → (0 < count_in e n → (b : ℕ) × (b < n) × (e b ≡ true)) → (b : ℕ) × (b < suc n) × (e b ≡ true)
+last_step : (e : ℕ → Bool) (n : ℕ) (t : Bool) → e n ≡ t → 0 < count_in e n + cond t 1 0
+    → (0 < count_in e n → (b : ℕ) × (b < n) × (e b ≡ true)) → (b : ℕ) × (b < suc n) × (e b ≡ true)
 last_step e n true h l i = (n, omega arith, h)
 last_step e n false h l i = let p = i (omega (arith, l)) in (p.0, omega (arith, p.1), p.2)
 

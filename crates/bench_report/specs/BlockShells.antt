@@ -42,7 +42,8 @@ way_field (Some i) = decimal (i + 1)
 
 -- a block, its shell and its way with commas between them, and a line feed
 abbrev pub block_way_line : ℕ → Option ℕ → Option ℕ → List ℕ
-block_way_line b shell way = decimal b ++ 44 ∷ (shell_field shell ++ 44 ∷ (way_field (way_if_held shell way) ++ 10 ∷ []))
+block_way_line b shell way = decimal b ++ 44
+    ∷ (shell_field shell ++ 44 ∷ (way_field (way_if_held shell way) ++ 10 ∷ []))
 
 -- the lines of the blocks below n, where these are the shells and the ways
 abbrev pub block_way_lines : (ℕ → Option ℕ) → (ℕ → Option ℕ) → ℕ → List ℕ

@@ -17,7 +17,8 @@ pub record SameLengths (model : BlocksView) (series : SeriesView) (worths : List
 
 -- the tonnes and the worths of the first blocks of a bench and a shell, those below j, add up to numbers of 128 bits
 abbrev pub BenchSumsFit : ReportedBlocks → ℤ → ℕ → ℕ → Type 0
-BenchSumsFit m z k j = FitsSigned w128 (worth_in m.tonnes (blocks_at m z k) j) × FitsSigned w128 (worth_in m.worth (blocks_at m z k) j)
+BenchSumsFit m z k j = FitsSigned w128 (worth_in m.tonnes (blocks_at m z k) j)
+    × FitsSigned w128 (worth_in m.worth (blocks_at m z k) j)
 
 -- the sums of every bench and shell fit after each block
 abbrev pub AllSumsFit : ReportedBlocks → Type 0

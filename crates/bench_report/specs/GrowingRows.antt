@@ -10,7 +10,14 @@ use Rattle.bench_report.specs.Faults.{BenchSumsFit, SomeBenchSumOverflows}
 
 -- the row of a bench and a shell, of the blocks below n
 abbrev pub row_below : ReportedBlocks → ℤ → ℕ → ℕ → BenchRow
-row_below m z k n = record { z = z; shell = k; blocks = count_in (blocks_at m z k) n; tonnes = worth_in m.tonnes (blocks_at m z k) n; worth = worth_in m.worth (blocks_at m z k) n }
+row_below m z k n = record {
+  z = z;
+  shell = k;
+  blocks = count_in (blocks_at m z k) n;
+  tonnes = worth_in m.tonnes
+      (blocks_at m z k) n;
+  worth = worth_in m.worth (blocks_at m z k) n;
+}
 
 -- the row of a bench and a shell with no block
 abbrev pub no_blocks : ℤ × ℕ → BenchRow
@@ -18,15 +25,16 @@ no_blocks q = record { z = q.0; shell = q.1; blocks = 0; tonnes = pos 0; worth =
 
 -- the row with one block more
 abbrev pub with_block : BenchRow → ℤ → ℤ → BenchRow
-with_block r tonnes worth = record { z = r.z; shell = r.shell; blocks = r.blocks + 1; tonnes = r.tonnes +ℤ tonnes; worth = r.worth +ℤ worth }
+with_block r tonnes worth = record
+    { z = r.z; shell = r.shell; blocks = r.blocks + 1; tonnes = r.tonnes +ℤ tonnes; worth = r.worth +ℤ worth }
 
 -- the row that is found, or one with no block
 abbrev pub row_at : (ℤ × ℕ → Option BenchRow) → ℤ × ℕ → BenchRow
 row_at found q = unwrap_or (found q) (no_blocks q)
 
 -- a row that has a block
-abbrev pub if_some : BenchRow → Option BenchRow
-if_some r = cond (r.blocks == 0) None (Some r)
+abbrev pub if_filled : BenchRow → Option BenchRow
+if_filled r = cond (r.blocks == 0) None (Some r)
 
 -- the numbers of a row with one block more are of 128 bits
 abbrev pub RowTakesBlock : BenchRow → ℤ → ℤ → Type 0
@@ -40,7 +48,7 @@ AddFaultStands r tonnes worth NoMemory = Unit {0}
 
 -- The rows of the blocks below n are found by bench and shell, and each of their sums fits on the way.
 pub record IsTallied (m : ReportedBlocks) (n : ℕ) (found : ℤ × ℕ → Option BenchRow) : Type 0 where
-  pub rows : (z : ℤ) (k : ℕ) → found (z, k) ≡ if_some (row_below m z k n)
+  pub rows : (z : ℤ) (k : ℕ) → found (z, k) ≡ if_filled (row_below m z k n)
   pub fits : (z : ℤ) (k j : ℕ) → j ≤ n → BenchSumsFit m z k j
 
 -- why the blocks aren't tallied

@@ -1,5 +1,6 @@
 -- The tonnes of a bench and a shell by the way that their blocks go, and the text of a bench table that has them.
-use Rattle.std.specs.Prelude.{◌≡◌, ℕ, zero, suc, ◌+◌, ◌<◌, ℤ, pos, ◌==◌, ◌&&◌, Bool, true, false, List, [], ◌∷◌, ◌++◌, map, length, codes, slice_index_or, Vec, Option, Some, None}
+use Rattle.std.specs.Prelude.{◌≡◌, ℕ, zero, suc, ◌+◌, ◌<◌, ℤ, pos, ◌==◌, ◌&&◌, Bool, true, false, List, [], ◌∷◌, ◌++◌}
+use Rattle.std.specs.Prelude.{map, length, codes, slice_index_or, Vec, Option, Some, None}
 use Rattle.std.specs.List.{range_with_len}
 use Rattle.std.specs.declared.alloc.Global.{Global}
 use Rattle.std.specs.Fmt.{decimal, signed_decimal}
@@ -39,7 +40,8 @@ tonnes_by_way m way n r = map (way_tonnes m way r) (range_with_len 0 n)
 
 -- Where each block goes one of n ways or to waste, the tonnes of a row by way add up to those of its treated blocks.
 abbrev pub WaysAddUp : Type 0
-WaysAddUp = (m : ReportedBlocks) (way : ℕ → Option ℕ) (n : ℕ) (r : BenchRow) → ((b i : ℕ) → b < m.blocks → way b ≡ Some i → i < n)
+WaysAddUp = (m : ReportedBlocks) (way : ℕ → Option ℕ) (n : ℕ) (r : BenchRow)
+    → ((b i : ℕ) → b < m.blocks → way b ≡ Some i → i < n)
     → worth_in (way_tonnes m way r) (λ i. true) n ≡ treated_tonnes m way r
 
 -- ---- the text
@@ -55,7 +57,8 @@ way_header n = codes "z,shell,blocks,tonnes,worth" ++ (way_names n ++ 10 ∷ [])
 
 -- the numbers of a row as the table without ways has them, with no line feed
 abbrev pub row_front : BenchRow → List ℕ
-row_front r = signed_decimal r.z ++ 44 ∷ (decimal r.shell ++ 44 ∷ (decimal r.blocks ++ 44 ∷ (amount_text 6 r.tonnes ++ 44 ∷ amount_text 9 r.worth)))
+row_front r = signed_decimal r.z ++ 44
+    ∷ (decimal r.shell ++ 44 ∷ (decimal r.blocks ++ 44 ∷ (amount_text 6 r.tonnes ++ 44 ∷ amount_text 9 r.worth)))
 
 -- tonnes with at most six places, a comma (44) before each
 abbrev pub tonnes_fields : List ℤ → List ℕ

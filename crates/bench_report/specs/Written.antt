@@ -14,7 +14,8 @@ header_line = codes "z,shell,blocks,tonnes,worth\n"
 -- the numbers of a row with commas (44) between them, and a line feed (10): tonnes with at most six places, worth with
 -- at most nine
 abbrev pub fields_line : ℤ → ℕ → ℕ → ℤ → ℤ → List ℕ
-fields_line z shell blocks tonnes worth = signed_decimal z ++ 44 ∷ (decimal shell ++ 44 ∷ (decimal blocks ++ 44 ∷ (amount_text 6 tonnes ++ 44 ∷ (amount_text 9 worth ++ 10 ∷ []))))
+fields_line z shell blocks tonnes worth = signed_decimal z ++ 44
+    ∷ (decimal shell ++ 44 ∷ (decimal blocks ++ 44 ∷ (amount_text 6 tonnes ++ 44 ∷ (amount_text 9 worth ++ 10 ∷ []))))
 
 abbrev pub row_line : BenchRow → List ℕ
 row_line r = fields_line r.z r.shell r.blocks r.tonnes r.worth

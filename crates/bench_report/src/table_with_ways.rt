@@ -3,7 +3,7 @@
 ghost use Rattle.std.specs.Prelude.{◌≡◌, ◌<◌, ◌+◌, ℤ, List, length, All, IfOk};
 ghost use Rattle.std.specs.String.{string_bytes};
 ghost use Rattle.bench_report.specs.declared.bench_row.BenchRow.{BenchRow};
-ghost use Rattle.bench_report.specs.WayTonnes.{AreTonnesOf, row_front, tonnes_at, tonnes_fields, way_header, way_names, way_row_line, way_table_text};
+ghost use Rattle.bench_report.specs.WayTonnes.{AreTonnesOf, row_front, tonnes_at, tonnes_fields, way_header, way_row_line, way_table_text};
 
 use crate::bench_row::BenchRow;
 use fixed_worth::{MicrosTotal, Nanos};
@@ -80,7 +80,8 @@ pub fn way_table(
     by_way: &[Vec<i128>],
 ) -> Result<Vec<u8>, AllocError>
     requires { All (λ list. length list.items ≡ length rows.now) by_way.now }
-    ensures { IfOk result (λ text. (tonnes : BenchRow → List ℤ) → AreTonnesOf rows.now by_way.now tonnes
+    ensures { IfOk result
+        (λ text. (tonnes : BenchRow → List ℤ) → AreTonnesOf rows.now by_way.now tonnes
         → text.items ≡ way_table_text (length by_way.now) tonnes rows.now) }
 {
     let mut text = header_of(alloc, by_way.len())?;

@@ -3,13 +3,14 @@
 ghost use Rattle.std.specs.Prelude.{◌≡◌, ◌++◌, ◌+◌, ◌-◌, ◌^◌, ◌<◌, Err, IfOk, OnOk, map};
 ghost use Rattle.std.specs.Io.KnownBytes.{Appends};
 ghost use Rattle.csv.specs.Writing.{default_writer, row_text};
-ghost use Rattle.fixed_worth.specs.Device.{ReceivedPrefix};
+ghost use Rattle.counted_devices.specs.Device.{ReceivedPrefix};
 ghost use Rattle.bench_report.specs.Written.{IsReady, written_bytes, row_line, table_text};
 
 use crate::bench_row::BenchRow;
 use crate::write_fault::ReportWriteFault;
+use counted_devices::{CountedWrite, write_text};
 use csv::{Writer, WriterBuilder};
-use fixed_worth::{CountedWrite, MicrosTotal, Nanos, write_text};
+use fixed_worth::{MicrosTotal, Nanos};
 use std::alloc::{AllocError, Global};
 
 // Writes a record. Over a vector nothing but refused memory makes that fail, since each record has as many fields.

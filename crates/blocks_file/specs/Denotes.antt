@@ -1,11 +1,13 @@
 -- What a text of blocks denotes.
-use Rattle.std.specs.Prelude.{◌≡◌, ℕ, ℤ, pos, ◌+◌, ◌*◌, ◌^◌, ◌<◌, ◌≤◌, unsigned_abs, true, List, [], ◌∷◌, length, map, slice_index_or, Option, None, Some}
+use Rattle.std.specs.Prelude.{◌≡◌, ℕ, ℤ, pos, ◌+◌, ◌*◌, ◌^◌, ◌<◌, ◌≤◌, unsigned_abs, true, List, [], ◌∷◌, length, map}
+use Rattle.std.specs.Prelude.{slice_index_or, Option, None, Some}
 use Rattle.std.specs.List.{range_with_len}
 use Rattle.fixed_worth.specs.declared.limits.TheConstants.{MOST_BLOCKS}
 use Rattle.blocks_file.specs.declared.limits.TheConstants.{MOST_COLUMNS}
 use Rattle.blocks_file.specs.declared.place.Place.{Place}
 use Rattle.fixed_worth.specs.Record.{lines_in}
-use Rattle.blocks_file.specs.Records.{place_of_record, columns_of, value_in, has_record, record_among, record_count_of}
+use Rattle.blocks_file.specs.Records.{place_of_record, columns_of, value_in, has_place_record, record_among}
+use Rattle.blocks_file.specs.Records.{record_count_of}
 
 -- What the type shows: the number of blocks, the place of each, and each chosen column's values in millionths.
 pub record BlocksView : Type 0 where
@@ -19,7 +21,8 @@ origin = record { x = pos 0; y = pos 0; z = pos 0 }
 
 -- The columns of values that stand block after block.
 abbrev pub columns_from : ℕ → ℕ → List ℤ → List (List ℤ)
-columns_from width n values = map (λ i. map (λ b. slice_index_or values (b * width + i) (pos 0)) (range_with_len 0 n)) (range_with_len 0 width)
+columns_from width n values = map (λ i. map (λ b. slice_index_or values (b * width + i) (pos 0)) (range_with_len 0 n))
+    (range_with_len 0 width)
 
 -- The same blocks with one of their columns alone, or with none.
 abbrev pub narrowed : Option ℕ → BlocksView → BlocksView
@@ -27,8 +30,9 @@ narrowed None m = record { blocks = m.blocks; places = m.places; columns = [] }
 narrowed (Some i) m = record { blocks = m.blocks; places = m.places; columns = slice_index_or m.columns i [] ∷ [] }
 
 -- no value of the column that was chosen as the i-th is above 10^18 millionths either way
-abbrev pub IsSmall : BlocksView → ℕ → Type 0
-IsSmall m i = (b : ℕ) → b < m.blocks → unsigned_abs (slice_index_or (slice_index_or m.columns i []) b (pos 0)) ≤ 10 ^ 18
+abbrev pub IsSmallColumn : BlocksView → ℕ → Type 0
+IsSmallColumn m i = (b : ℕ) → b < m.blocks → unsigned_abs (slice_index_or (slice_index_or m.columns i []) b (pos 0))
+    ≤ 10 ^ 18
 
 -- At most 2^24 blocks, each with a place and a value of each of at most 19 columns. No value is above 10^18 millionths
 -- either way.
@@ -40,11 +44,13 @@ pub record IsModel (n width : ℕ) (places : List Place) (values : List ℤ) : T
   pub small : (b i : ℕ) → b < n → i < width → unsigned_abs (slice_index_or values (b * width + i) (pos 0)) ≤ 10 ^ 18
 
 -- There are as many blocks as records, each has one, and the record gives its place and its chosen values.
-pub record Denotes (chosen text : List ℕ) (m : BlocksView) : Type 0 where
+pub record DenotesModel (chosen text : List ℕ) (m : BlocksView) : Type 0 where
   pub count : m.blocks ≡ record_count_of text
-  pub each : (b : ℕ) → b < m.blocks → has_record (lines_in text) b ≡ true
+  pub each : (b : ℕ) → b < m.blocks → has_place_record (lines_in text) b ≡ true
   pub all_places : length m.places ≡ m.blocks
-  pub place : (b : ℕ) → b < m.blocks → slice_index_or m.places b origin ≡ place_of_record (record_among (lines_in text) b)
+  pub place : (b : ℕ) → b < m.blocks
+      → slice_index_or m.places b origin ≡ place_of_record (record_among (lines_in text) b)
   pub all_columns : length m.columns ≡ length chosen
   pub all_values : (i : ℕ) → i < length chosen → length (slice_index_or m.columns i []) ≡ m.blocks
-  pub value : (i b : ℕ) → i < length chosen → b < m.blocks → slice_index_or (slice_index_or m.columns i []) b (pos 0) ≡ value_in (columns_of (record_among (lines_in text) b)) (slice_index_or chosen i 0)
+  pub value : (i b : ℕ) → i < length chosen → b < m.blocks → slice_index_or (slice_index_or m.columns i []) b (pos 0)
+      ≡ value_in (columns_of (record_among (lines_in text) b)) (slice_index_or chosen i 0)

@@ -23,7 +23,11 @@ pub struct BlockModel {
 impl Model for BlockModel {
     ghost Value = { spec.BlocksView };
 
-    ghost view = { λ m. record { blocks = m.blocks; places = m.places.items; columns = spec.columns_from m.width m.blocks m.values.items } };
+    ghost view = { λ m. record {
+      blocks = m.blocks;
+      places = m.places.items;
+      columns = spec.columns_from m.width m.blocks m.values.items;
+    } };
 
     ghost invariant = { λ m. spec.IsModel m.blocks m.width m.places.items m.values.items };
 }
@@ -31,7 +35,13 @@ impl Model for BlockModel {
 impl BlockModel {
     pub(crate) fn of(blocks: u32, width: u32, places: Vec<Place>, values: Vec<Micros>) -> BlockModel
         requires { spec.IsModel blocks width places.items values.items }
-        ensures { result ≡ record { blocks = blocks; places = places.items; columns = spec.columns_from width blocks values.items } }
+        ensures { result
+            ≡ record {
+              blocks = blocks;
+              places = places.items;
+              columns = spec.columns_from width blocks
+                  values.items;
+            } }
     {
         BlockModel {
             blocks,
@@ -62,7 +72,7 @@ impl BlockModel {
     pub fn columns(&self) -> u32
         ensures value { result ≡ length self.now.columns }
         ensures bound { result ≤ MOST_COLUMNS }
-        ensures small { (i : ℕ) → i < result → spec.IsSmall self.now i }
+        ensures small { (i : ℕ) → i < result → spec.IsSmallColumn self.now i }
     {
         self.width
     }

@@ -71,11 +71,11 @@ impl Kept {
             ≡ length self.old.seen.items * length row.now }
         ensures { let had : ℕ → Bool = λ b. slice_index_or self.old.seen.items b false in
             MatchResult result
-            (λ _. (spec.block_fault (length self.old.seen.items) had line block ≡ None)
+            (λ _. (spec.blocks_block_fault (length self.old.seen.items) had line block ≡ None)
             × (self.new.seen.items ≡ slice_set self.old.seen.items block true)
             × (self.new.places.items ≡ slice_set self.old.places.items block place)
             × ArePut (block * length row.now) row.now self.old.values.items self.new.values.items)
-            (λ e. spec.block_fault (length self.old.seen.items) had line block ≡ Some e) }
+            (λ e. spec.blocks_block_fault (length self.old.seen.items) had line block ≡ Some e) }
     {
         if block >= self.seen.len() as u64 {
             return Err(BlocksFault::UnknownBlock(line));

@@ -2,7 +2,7 @@
 
 ghost use Rattle.std.specs.Prelude.{◌≡◌, ◌≤◌, [], Some, None, Err, length, MatchResult};
 ghost use Rattle.blocks_file.specs.Records as spec;
-ghost use Rattle.blocks_file.specs.Denotes.{Denotes};
+ghost use Rattle.blocks_file.specs.Denotes.{DenotesModel};
 ghost use Rattle.blocks_file.specs.RowReading.{AreKept};
 
 use crate::counting::count_records;
@@ -19,9 +19,9 @@ fn read_records(alloc: Global, text: &[u8], columns: &[u32], n: u32) -> Result<K
     requires counted { n ≡ length (spec.record_line_numbers (spec.lines_in text.now)) }
     requires bound { n ≤ MOST_BLOCKS }
     ensures { let all = spec.lines_in text.now in MatchResult result
-        (λ kept. (spec.first_fault n columns.now [] all ≡ None)
+        (λ kept. (spec.first_blocks_fault n columns.now [] all ≡ None)
         × AreKept n columns.now all kept.places.items kept.values.items)
-        (λ e. spec.UnlessMemory e (spec.first_fault n columns.now [] all ≡ Some e)) }
+        (λ e. spec.UnlessBlocksMemory e (spec.first_blocks_fault n columns.now [] all ≡ Some e)) }
 {
     let mut kept = Kept::new(alloc, n, columns.len() as u32).map_err(|_| BlocksFault::NoMemory)?;
     let mut row = zeros(alloc, columns.len()).map_err(|_| BlocksFault::NoMemory)?;
@@ -56,8 +56,9 @@ fn read_records(alloc: Global, text: &[u8], columns: &[u32], n: u32) -> Result<K
 pub fn read_blocks(alloc: Global, text: &[u8], columns: &[u32]) -> Result<BlockModel, BlocksFault>
     requires { length columns.now ≤ MOST_COLUMNS }
     ensures value { MatchResult result
-        (λ m. (spec.fault_of columns.now text.now ≡ None) × Denotes columns.now text.now m)
-        (λ e. spec.UnlessMemory e (spec.fault_of columns.now text.now ≡ Some e)) }
+        (λ m. (spec.blocks_fault_of columns.now text.now ≡ None)
+        × DenotesModel columns.now text.now m)
+        (λ e. spec.UnlessBlocksMemory e (spec.blocks_fault_of columns.now text.now ≡ Some e)) }
     ensures early { (fault : BlocksFault) → spec.early_fault (spec.lines_in text.now) ≡ Some fault
         → result ≡ Err fault }
 {

@@ -12,7 +12,7 @@ use crate::place::{Place, read_coordinate};
 use crate::row::{are_there, read_row};
 use fixed_worth::{Fields, LINE_BYTES, Micros, is_remark, whole};
 
-// A record but for its columns.
+// A record without its columns.
 #[derive(Clone, Copy)]
 pub(crate) struct Record {
     pub block: u64,
@@ -49,12 +49,12 @@ pub(crate) fn read_record(
     ensures { MatchResult result
         (λ given. MatchOption given (IsTrue (is_skipped (fields_of text.now)))
         (λ r. (is_skipped (fields_of text.now) ≡ false)
-        × (spec.shape_fault line columns.now (fields_of text.now) ≡ None)
+        × (spec.blocks_shape_fault line columns.now (fields_of text.now) ≡ None)
         × (r.block ≡ spec.block_of (fields_of text.now))
         × (r.place ≡ spec.place_of_record (fields_of text.now))
         × HoldsValues columns.now (spec.columns_of (fields_of text.now)) row.new))
         (λ e. (is_skipped (fields_of text.now) ≡ false)
-        × (spec.shape_fault line columns.now (fields_of text.now) ≡ Some e)) }
+        × (spec.blocks_shape_fault line columns.now (fields_of text.now) ≡ Some e)) }
 {
     let mut fields = Fields::new(text);
     let Some(block) = fields.next() else {

@@ -1,5 +1,6 @@
 -- The lines of a certificate after its header.
-use Rattle.std.specs.Prelude.{ℕ, ℤ, pos, ◌+◌, Bool, true, false, not, cond, List, [], ◌∷◌, Option, Some, None, Result, Ok, Err}
+use Rattle.std.specs.Prelude.{ℕ, ℤ, pos, ◌+◌, Bool, true, false, not, cond, List, [], ◌∷◌, Option, Some, None, Result}
+use Rattle.std.specs.Prelude.{Ok, Err}
 use Rattle.std.specs.Str.{bytes_eq}
 use Rattle.std.specs.Ordering.{int_eq, nat_cmp, ordering_then, is_lt}
 use lib.Chars.{codes}
@@ -16,8 +17,8 @@ use Rattle.certificate_file.specs.Pieces.{Piece, read_line, words_of, number_bel
 use Rattle.certificate_file.specs.Header.{◌>>=◌}
 
 -- the kind that a key names
-abbrev pub kind_of : List ℕ → Option LineKind
-kind_of key =
+abbrev pub line_kind_of : List ℕ → Option LineKind
+line_kind_of key =
     cond (bytes_eq key (codes "PIT")) (Some Pit)
     (cond (bytes_eq key (codes "SOURCE")) (Some Source)
     (cond (bytes_eq key (codes "REST")) (Some Rest)
@@ -40,7 +41,8 @@ amount_in counts worth count = amount_said counts (plain_of worth) (plain_of cou
 
 -- a line of a kind, where all its numbers are right
 abbrev pub numbered_line : LineKind → Option ℕ → Option ℕ → Option (ℤ × ℤ) → Result BodyLine LineFault
-numbered_line kind (Some block) (Some other) (Some amount) = Ok (record { kind = kind; block = block; other = other; worth = amount.0; count = amount.1 })
+numbered_line kind (Some block) (Some other) (Some amount) = Ok
+    (record { kind = kind; block = block; other = other; worth = amount.0; count = amount.1 })
 numbered_line kind _ _ _ = Err Number
 
 -- the line PIT, by the words after its key: a block
@@ -55,7 +57,8 @@ block_line counts n kind _ = Err Text
 
 -- a line REST, by the words after its key: a block, the predecessor that it rests on, and an amount
 abbrev pub rest_line : Bool → ℕ → List (List ℕ) → Result BodyLine LineFault
-rest_line counts n (b ∷ p ∷ w ∷ c ∷ []) = numbered_line Rest (number_below n b) (number_below n p) (amount_in counts w c)
+rest_line counts n (b ∷ p ∷ w ∷ c ∷ []) = numbered_line Rest (number_below n b) (number_below n p)
+    (amount_in counts w c)
 rest_line counts n _ = Err Text
 
 -- the line END, after whose key there is nothing
@@ -75,7 +78,7 @@ line_with counts n (Some End) words = end_line words
 -- the line that words are, of which the first is its key
 abbrev pub line_of_words : Bool → ℕ → List (List ℕ) → Result BodyLine LineFault
 line_of_words counts n [] = Err Text
-line_of_words counts n (key ∷ words) = line_with counts n (kind_of key) words
+line_of_words counts n (key ∷ words) = line_with counts n (line_kind_of key) words
 
 -- the line that a text is, for n blocks and a group with or without counts
 abbrev pub line_of : Bool → ℕ → List ℕ → Result BodyLine LineFault
@@ -96,7 +99,9 @@ is_end _ = false
 
 -- by kinds, then by blocks, and then by predecessors, a line is above another
 abbrev pub is_above : BodyLine → BodyLine → Bool
-is_above previous line = is_lt (ordering_then (nat_cmp (rank previous.kind) (rank line.kind)) (ordering_then (nat_cmp previous.block line.block) (nat_cmp previous.other line.other)))
+is_above previous line = is_lt
+    (ordering_then (nat_cmp (rank previous.kind) (rank line.kind))
+    (ordering_then (nat_cmp previous.block line.block) (nat_cmp previous.other line.other)))
 
 -- a line that may stand after another, or first
 abbrev pub may_follow : Option BodyLine → BodyLine → Bool
@@ -117,36 +122,37 @@ abbrev pub in_model : (ℕ → ℕ → Bool) → ℕ → BodyLine → Result Bod
 in_model has k line = cond (is_of_model has line.kind line) (Ok line) (Err (fault.UnknownPair k))
 
 -- the line that piece k is, after another one
-abbrev pub line_behind : Bool → ℕ → Option BodyLine → ℕ → Piece → Result BodyLine CertFault
-line_behind counts n previous k p = do
+abbrev pub line_after : Bool → ℕ → Option BodyLine → ℕ → Piece → Result BodyLine CertFault
+line_after counts n previous k p = do
   line ← read_line (line_of counts n) k p
   in_order previous k line
 
 -- the line that piece k is, after another one, where the pair of a line `REST` must be one of the model's
 abbrev pub next_line : Bool → ℕ → (ℕ → ℕ → Bool) → Option BodyLine → ℕ → Piece → Result BodyLine CertFault
 next_line counts n has previous k p = do
-  line ← line_behind counts n previous k p
+  line ← line_after counts n previous k p
   in_model has k line
 
 -- nothing may stand after the last line
-abbrev pub end_fault : ℕ → List Piece → Option CertFault
-end_fault k [] = None
-end_fault k (p ∷ ps) = Some (fault.Text (k + 1))
+abbrev pub cert_end_fault : ℕ → List Piece → Option CertFault
+cert_end_fault k [] = None
+cert_end_fault k (p ∷ ps) = Some (fault.Text (k + 1))
 
 -- the fault of a line, or else what is wrong after it
 abbrev pub fault_from : Option CertFault → (BodyLine → Option CertFault) → Result BodyLine CertFault → Option CertFault
-fault_from at_end behind (Err e) = Some e
-fault_from at_end behind (Ok line) = cond (is_end line.kind) at_end (behind line)
+fault_from at_end past (Err e) = Some e
+fault_from at_end past (Ok line) = cond (is_end line.kind) at_end (past line)
 
 -- the fault of the first faulty line after line k, which said what is previous
 abbrev pub body_fault : Bool → ℕ → (ℕ → ℕ → Bool) → Option BodyLine → ℕ → List Piece → Option CertFault
 body_fault counts n has previous k [] = Some fault.Truncated
-body_fault counts n has previous k (p ∷ ps) = fault_from (end_fault (k + 1) ps) (λ line. body_fault counts n has (Some line) (k + 1) ps) (next_line counts n has previous (k + 1) p)
+body_fault counts n has previous k (p ∷ ps) = fault_from (cert_end_fault (k + 1) ps)
+    (λ line. body_fault counts n has (Some line) (k + 1) ps) (next_line counts n has previous (k + 1) p)
 
 -- a line and those after it, where it is read and is not END
 abbrev pub lines_from : List BodyLine → Result BodyLine LineFault → List BodyLine
-lines_from behind (Err e) = []
-lines_from behind (Ok line) = cond (is_end line.kind) [] (line ∷ behind)
+lines_from past (Err e) = []
+lines_from past (Ok line) = cond (is_end line.kind) [] (line ∷ past)
 
 -- the lines before END
 abbrev pub lines_of_pieces : Bool → ℕ → List Piece → List BodyLine

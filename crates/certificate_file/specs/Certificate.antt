@@ -1,5 +1,6 @@
 -- What a certificate's text says, and what is wrong with it.
-use Rattle.std.specs.Prelude.{◌≡◌, ℕ, ◌<◌, ◌==◌, ◌&&◌, Bool, true, false, cond, List, [], ◌∷◌, length, drop, slice_index_or, All, Option, Some, None, Result, Ok, Err, codes}
+use Rattle.std.specs.Prelude.{◌≡◌, ℕ, ◌<◌, ◌==◌, ◌&&◌, Bool, true, false, cond, List, [], ◌∷◌, length, drop}
+use Rattle.std.specs.Prelude.{slice_index_or, All, Option, Some, None, Result, Ok, Err, codes}
 use Rattle.ordered_group.specs.declared.groups.Group.{Group}
 use Rattle.ordered_group.specs.Prelude.{Amount, zero_amount, amount_at}
 pub use Rattle.prec_file.specs.Rests.{has_pair}
@@ -8,7 +9,8 @@ use Rattle.certificate_file.specs.declared.header.Header.{Header}
 use Rattle.certificate_file.specs.declared.header.Wanted.{Wanted}
 use Rattle.certificate_file.specs.declared.header.Price.{Price}
 use Rattle.certificate_file.specs.declared.cert_fault.CertFault.{CertFault}
-use Rattle.certificate_file.specs.declared.cert_fault.CertFault.TheVariants.{NoMemory, Text, Number, OutOfOrder, UnknownPair, Truncated}
+use Rattle.certificate_file.specs.declared.cert_fault.CertFault.TheVariants.{NoMemory, Text, Number, OutOfOrder}
+use Rattle.certificate_file.specs.declared.cert_fault.CertFault.TheVariants.{UnknownPair, Truncated}
 use Rattle.certificate_file.specs.declared.body_lines.LineKind.{LineKind}
 use Rattle.certificate_file.specs.declared.body_lines.LineKind.TheVariants.{Pit, Source, Rest, Sink}
 use Rattle.certificate_file.specs.declared.body_lines.BodyLine.{BodyLine}
@@ -27,13 +29,14 @@ abbrev pub wanted_for : ℕ → Group → Option Wanted
 wanted_for n name = Some (record { blocks = n; group = name })
 
 -- the fault of the header, or else of the lines after it
-abbrev pub fault_behind : Bool → ℕ → List (ℕ × ℕ) → List Piece → Result Header CertFault → Option CertFault
-fault_behind counts n pairs body (Err e) = Some e
-fault_behind counts n pairs body (Ok header) = body_fault counts n (has_pair pairs) None 4 body
+abbrev pub cert_fault_after : Bool → ℕ → List (ℕ × ℕ) → List Piece → Result Header CertFault → Option CertFault
+cert_fault_after counts n pairs body (Err e) = Some e
+cert_fault_after counts n pairs body (Ok header) = body_fault counts n (has_pair pairs) None 4 body
 
 -- the fault of a text as a certificate of the group with this name, for n blocks and these pairs
-abbrev pub fault_of : Bool → Group → ℕ → List (ℕ × ℕ) → List ℕ → Option CertFault
-fault_of counts name n pairs text = fault_behind counts n pairs (body_of text) (header_for (wanted_for n name) (pieces_of text))
+abbrev pub cert_fault_of : Bool → Group → ℕ → List (ℕ × ℕ) → List ℕ → Option CertFault
+cert_fault_of counts name n pairs text = cert_fault_after counts n pairs (body_of text)
+    (header_for (wanted_for n name) (pieces_of text))
 
 -- the amount of a line: its worth and its count
 abbrev pub amount_of : BodyLine → Amount
@@ -88,11 +91,13 @@ pub record Covers (n m : ℕ) (flow : FlowView) : Type 0 where
   pub sinks : length flow.sink ≡ n
 
 -- the pit and the flow that the lines say: an amount without a line is zero
-pub record Denotes (n : ℕ) (pairs : List (ℕ × ℕ)) (lines : List BodyLine) (blocks : List ℕ) (flow : FlowView) : Type 0 where
+pub record DenotesFlow (n : ℕ) (pairs : List (ℕ × ℕ)) (lines : List BodyLine) (blocks : List ℕ) (flow : FlowView) :
+    Type 0 where
   pub pit : blocks ≡ pit_of lines
   pub covers : Covers n (length pairs) flow
   pub source : (b : ℕ) → b < n → amount_at flow.source b ≡ given_amount (gives_source b) zero_amount lines
-  pub rest : (k : ℕ) → k < length pairs → amount_at flow.rest k ≡ given_amount (gives_rest (slice_index_or pairs k (0, 0))) zero_amount lines
+  pub rest : (k : ℕ) → k < length pairs
+      → amount_at flow.rest k ≡ given_amount (gives_rest (slice_index_or pairs k (0, 0))) zero_amount lines
   pub sink : (b : ℕ) → b < n → amount_at flow.sink b ≡ given_amount (gives_sink b) zero_amount lines
 
 -- the lines of a text after its header, before END
@@ -100,24 +105,25 @@ abbrev pub lines_of_text : Bool → ℕ → List ℕ → List BodyLine
 lines_of_text counts n text = lines_of_pieces counts n (body_of text)
 
 -- The numbers, the pit and the flow that a text without a fault gives; and it is the one text of these.
-pub record IsRead (counts : Bool) (name : Group) (n : ℕ) (pairs : List (ℕ × ℕ)) (text : List ℕ) (blocks : ℕ) (price : Price) (pit : List ℕ) (flow : FlowView) : Type 0 where
+pub record IsRead (counts : Bool) (name : Group) (n : ℕ) (pairs : List (ℕ × ℕ)) (text : List ℕ) (blocks : ℕ)
+    (price : Price) (pit : List ℕ) (flow : FlowView) : Type 0 where
   pub header : header_for (wanted_for n name) (pieces_of text) ≡ Ok (record { blocks = n; price = price; group = name })
   pub same_blocks : blocks ≡ n
-  pub denotes : Denotes n pairs (lines_of_text counts n text) pit flow
+  pub denotes : DenotesFlow n pairs (lines_of_text counts n text) pit flow
   pub ascending : IsAscending pit
   pub known : All (λ b. b < n) pit
   pub spelled : text ≡ text_of (header_with n price name) pairs pit flow
 
 -- want of memory says nothing of the text
-abbrev pub UnlessMemory : CertFault → Type 0 → Type 0
-UnlessMemory NoMemory P = Unit {0}
-UnlessMemory _ P = P
+abbrev pub UnlessCertMemory : CertFault → Type 0 → Type 0
+UnlessCertMemory NoMemory P = Unit {0}
+UnlessCertMemory _ P = P
 
 -- of a text that is no certificate: the fault's name, and the line's number in parentheses where there is one
-abbrev pub fault_text : CertFault → List ℕ
-fault_text (Text k) = at_line (codes "Text") k
-fault_text (Number k) = at_line (codes "Number") k
-fault_text (OutOfOrder k) = at_line (codes "OutOfOrder") k
-fault_text (UnknownPair k) = at_line (codes "UnknownPair") k
-fault_text Truncated = codes "Truncated"
-fault_text NoMemory = codes "NoMemory"
+abbrev pub cert_fault_text : CertFault → List ℕ
+cert_fault_text (Text k) = at_line (codes "Text") k
+cert_fault_text (Number k) = at_line (codes "Number") k
+cert_fault_text (OutOfOrder k) = at_line (codes "OutOfOrder") k
+cert_fault_text (UnknownPair k) = at_line (codes "UnknownPair") k
+cert_fault_text Truncated = codes "Truncated"
+cert_fault_text NoMemory = codes "NoMemory"

@@ -17,6 +17,10 @@ with_rest k x g = record { pit = g.pit; flow = flow_view g.flow.source (slice_se
 -- the lines are added to what was gathered before
 pub record Adds (n : ℕ) (pairs : List (ℕ × ℕ)) (lines : List BodyLine) (before later : Gathered) : Type 0 where
   pub pit : later.pit ≡ before.pit ++ pit_of lines
-  pub source : (b : ℕ) → b < n → amount_at later.flow.source b ≡ given_amount (gives_source b) (amount_at before.flow.source b) lines
-  pub rest : (k : ℕ) → k < length pairs → amount_at later.flow.rest k ≡ given_amount (gives_rest (slice_index_or pairs k (0, 0))) (amount_at before.flow.rest k) lines
-  pub sink : (b : ℕ) → b < n → amount_at later.flow.sink b ≡ given_amount (gives_sink b) (amount_at before.flow.sink b) lines
+  pub source : (b : ℕ) → b < n → amount_at later.flow.source b ≡ given_amount (gives_source b)
+      (amount_at before.flow.source b) lines
+  pub rest : (k : ℕ) → k < length pairs
+      → amount_at later.flow.rest k ≡ given_amount (gives_rest (slice_index_or pairs k (0, 0)))
+      (amount_at before.flow.rest k) lines
+  pub sink : (b : ℕ) → b < n → amount_at later.flow.sink b ≡ given_amount (gives_sink b)
+      (amount_at before.flow.sink b) lines

@@ -17,14 +17,14 @@ use Rattle.certificate_file.specs.declared.cert_fault.LineFault.TheVariants.{Tex
 use Rattle.certificate_file.specs.Pieces.{Piece, piece_at, read_line, words_of, number_below}
 
 -- the second of two words, of which the first is the key
-abbrev pub value_behind : List ℕ → List (List ℕ) → Option (List ℕ)
-value_behind key (k ∷ v ∷ []) = cond (bytes_eq k key) (Some v) None
-value_behind key _ = None
+abbrev pub value_after : List ℕ → List (List ℕ) → Option (List ℕ)
+value_after key (k ∷ v ∷ []) = cond (bytes_eq k key) (Some v) None
+value_after key _ = None
 
 -- the third of three words, of which the first two are the keys
-abbrev pub value_behind_both : List ℕ → List ℕ → List (List ℕ) → Option (List ℕ)
-value_behind_both key other (k ∷ o ∷ v ∷ []) = cond (bytes_eq k key && bytes_eq o other) (Some v) None
-value_behind_both key other _ = None
+abbrev pub value_after_both : List ℕ → List ℕ → List (List ℕ) → Option (List ℕ)
+value_after_both key other (k ∷ o ∷ v ∷ []) = cond (bytes_eq k key && bytes_eq o other) (Some v) None
+value_after_both key other _ = None
 
 -- what is read of a number, or that it is none
 abbrev pub or_number : {A : Type 0} → Option A → Result A LineFault
@@ -33,7 +33,8 @@ or_number None = Err Number
 
 -- the version that a line names: PITCERT 1 or PITCERT 2
 abbrev pub version_in : List ℕ → Result Version LineFault
-version_in text = cond (bytes_eq text (codes "PITCERT 1")) (Ok One) (cond (bytes_eq text (codes "PITCERT 2")) (Ok Two) (Err Text))
+version_in text = cond (bytes_eq text (codes "PITCERT 1")) (Ok One)
+    (cond (bytes_eq text (codes "PITCERT 2")) (Ok Two) (Err Text))
 
 -- the number of blocks, where it is the one that is wanted
 abbrev pub wanted_blocks : Option Wanted → Option ℕ → Option ℕ
@@ -48,7 +49,7 @@ blocks_said wanted (Some word) = or_number (wanted_blocks wanted (number_below (
 
 -- the number of blocks of a line BLOCKS n: at most `MOST_BLOCKS`, which is 2^24
 abbrev pub blocks_in : Option Wanted → List ℕ → Result ℕ LineFault
-blocks_in wanted text = blocks_said wanted (value_behind (codes "BLOCKS") (words_of text))
+blocks_in wanted text = blocks_said wanted (value_after (codes "BLOCKS") (words_of text))
 
 -- the price at a factor
 abbrev pub factor_of : Option ℕ → Option Price
@@ -58,7 +59,8 @@ factor_of None = None
 -- the price that a word says
 abbrev pub price_said : Option (List ℕ) → Result Price LineFault
 price_said None = Err Text
-price_said (Some word) = cond (bytes_eq word (codes "OBJECTIVE")) (Ok Objective) (or_number (factor_of (number_below (MOST_FACTOR + 1) word)))
+price_said (Some word) = cond (bytes_eq word (codes "OBJECTIVE")) (Ok Objective)
+    (or_number (factor_of (number_below (MOST_FACTOR + 1) word)))
 
 -- the price at a factor where there is a mill
 abbrev pub mill_of : Option ℕ → Option Price
@@ -73,8 +75,8 @@ mill_said (Some word) = or_number (mill_of (number_below (MOST_FACTOR + 1) word)
 -- the price of a line: PRICE OBJECTIVE, or PRICE k with a factor from 0 to 10,000; in a text of the second version
 -- PRICE MILL k and nothing else
 abbrev pub price_in : Version → List ℕ → Result Price LineFault
-price_in One text = price_said (value_behind (codes "PRICE") (words_of text))
-price_in Two text = mill_said (value_behind_both (codes "PRICE") (codes "MILL") (words_of text))
+price_in One text = price_said (value_after (codes "PRICE") (words_of text))
+price_in Two text = mill_said (value_after_both (codes "PRICE") (codes "MILL") (words_of text))
 
 -- the group, where its name is that of the one that is wanted
 abbrev pub wanted_group : Option Wanted → Group → Result Group LineFault
@@ -93,7 +95,7 @@ group_said wanted (Some word) = group_named wanted (group_of word)
 
 -- the group of a line: GROUP and the word of a kind of amount
 abbrev pub group_in : Option Wanted → List ℕ → Result Group LineFault
-group_in wanted text = group_said wanted (value_behind (codes "GROUP") (words_of text))
+group_in wanted text = group_said wanted (value_after (codes "GROUP") (words_of text))
 
 -- a result, and what is made of it where it is no fault
 infixl 10 ◌>>=◌

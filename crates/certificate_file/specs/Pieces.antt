@@ -1,5 +1,6 @@
 -- A text as pieces between line feeds, and a line as words between spaces.
-use Rattle.std.specs.Prelude.{◌≡◌, ℕ, ℤ, pos, ◌+◌, ◌==◌, Bool, true, false, cond, List, [], ◌∷◌, length, nat_lt, slice_index_or, Option, Some, None, Result, Ok, Err}
+use Rattle.std.specs.Prelude.{◌≡◌, ℕ, ℤ, pos, ◌+◌, ◌==◌, Bool, true, false, cond, List, [], ◌∷◌, length, nat_lt}
+use Rattle.std.specs.Prelude.{slice_index_or, Option, Some, None, Result, Ok, Err}
 use Rattle.fixed_worth.specs.declared.limits.TheConstants.{LINE_BYTES}
 use Rattle.fixed_worth.specs.declared.numerals.NumberFault.{NumberFault}
 use Rattle.fixed_worth.specs.Prelude.{plain_of, parts}
@@ -38,7 +39,8 @@ piece_at ps k = slice_index_or ps k (record { text = []; ended = false })
 
 -- why a piece is no line: it is too long, or no line feed ends it
 abbrev pub piece_fault : ℕ → Piece → Option CertFault
-piece_fault k p = cond (nat_lt LINE_BYTES (length p.text)) (Some (fault.Text k)) (cond p.ended None (Some fault.Truncated))
+piece_fault k p = cond (nat_lt LINE_BYTES (length p.text)) (Some (fault.Text k))
+    (cond p.ended None (Some fault.Truncated))
 
 -- what a line gives, or its fault with its number
 abbrev pub in_line : {A : Type 0} → ℕ → Result A LineFault → Result A CertFault
@@ -47,22 +49,22 @@ in_line k (Err Text) = Err (fault.Text k)
 in_line k (Err Number) = Err (fault.Number k)
 
 -- a fault, or else what is read
-abbrev pub unless_fault : {A : Type 0} → Option CertFault → Result A CertFault → Result A CertFault
-unless_fault (Some e) r = Err e
-unless_fault None r = r
+abbrev pub unless_cert_fault : {A : Type 0} → Option CertFault → Result A CertFault → Result A CertFault
+unless_cert_fault (Some e) r = Err e
+unless_cert_fault None r = r
 
 -- what f makes of the line that a piece is
 abbrev pub read_line : {A : Type 0} → (List ℕ → Result A LineFault) → ℕ → Piece → Result A CertFault
-read_line f k p = unless_fault (piece_fault k p) (in_line k (f p.text))
+read_line f k p = unless_cert_fault (piece_fault k p) (in_line k (f p.text))
 
 -- a number that is at least 0 and below the limit
-abbrev pub within : ℕ → Result ℤ NumberFault → Option ℕ
-within limit (Ok (pos k)) = cond (nat_lt k limit) (Some k) None
-within limit _ = None
+abbrev pub whole_below : ℕ → Result ℤ NumberFault → Option ℕ
+whole_below limit (Ok (pos k)) = cond (nat_lt k limit) (Some k) None
+whole_below limit _ = None
 
 -- the number that a word is in its one spelling, where it is at least 0 and below the limit
 abbrev pub number_below : ℕ → List ℕ → Option ℕ
-number_below limit word = within limit (plain_of word)
+number_below limit word = whole_below limit (plain_of word)
 
 -- The first piece is a line of which f makes x, and the others are left.
 pub record IsPieceRead {A : Type 0} (f : List ℕ → Result A LineFault) (before later : Unread) (x : A) : Type 0 where

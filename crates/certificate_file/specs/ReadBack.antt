@@ -6,7 +6,7 @@ use Rattle.ordered_group.specs.Prelude.{Amount, FitsPair, amount_at}
 use Rattle.closure_net.specs.Network.{FlowView}
 use Rattle.certificate_file.specs.declared.header.Price.{Price}
 use Rattle.certificate_file.specs.declared.header.Price.TheVariants.{Objective, Factor, Mill}
-use Rattle.certificate_file.specs.Certificate.{IsRead, fault_of}
+use Rattle.certificate_file.specs.Certificate.{IsRead, cert_fault_of}
 
 -- a factor is at most 10,000
 abbrev pub IsPrice : Price → Type 0
@@ -26,7 +26,9 @@ pub record AreWritable (counts : Bool) (flow : FlowView) : Type 0 where
   pub sink : (k : ℕ) → k < length flow.sink → Writable counts (amount_at flow.sink k)
 
 -- the text is read without a fault, as these values and no others
-pub record IsReadBack (counts : Bool) (name : Group) (n : ℕ) (pairs : List (ℕ × ℕ)) (text : List ℕ) (price : Price) (pit : List ℕ) (flow : FlowView) : Type 0 where
-  pub none : fault_of counts name n pairs text ≡ None
+pub record IsCertReadBack (counts : Bool) (name : Group) (n : ℕ) (pairs : List (ℕ × ℕ)) (text : List ℕ)
+    (price : Price) (pit : List ℕ) (flow : FlowView) : Type 0 where
+  pub none : cert_fault_of counts name n pairs text ≡ None
   pub read : IsRead counts name n pairs text n price pit flow
-  pub only : (b : ℕ) (p : Price) (q : List ℕ) (f : FlowView) → IsRead counts name n pairs text b p q f → (b ≡ n) × (p ≡ price) × (q ≡ pit) × (f ≡ flow)
+  pub only : (b : ℕ) (p : Price) (q : List ℕ) (f : FlowView) → IsRead counts name n pairs text b p q f → (b ≡ n)
+      × (p ≡ price) × (q ≡ pit) × (f ≡ flow)

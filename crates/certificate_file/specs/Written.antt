@@ -54,7 +54,8 @@ header_words h =
 abbrev pub words_with : LineKind → BodyLine → List (List ℕ)
 words_with Pit l = codes "PIT" ∷ decimal l.block ∷ []
 words_with Source l = codes "SOURCE" ∷ decimal l.block ∷ signed_decimal l.worth ∷ signed_decimal l.count ∷ []
-words_with Rest l = codes "REST" ∷ decimal l.block ∷ decimal l.other ∷ signed_decimal l.worth ∷ signed_decimal l.count ∷ []
+words_with Rest l = codes "REST" ∷ decimal l.block ∷ decimal l.other ∷ signed_decimal l.worth ∷ signed_decimal l.count
+    ∷ []
 words_with Sink l = codes "SINK" ∷ decimal l.block ∷ signed_decimal l.worth ∷ signed_decimal l.count ∷ []
 words_with End l = codes "END" ∷ []
 
@@ -72,7 +73,13 @@ line_of_block kind b x = record { kind = kind; block = b; other = 0; worth = x.w
 
 -- the line of the amount over the pair at a place
 abbrev pub pair_at : List (ℕ × ℕ) → ℕ → Amount → BodyLine
-pair_at pairs k x = record { kind = Rest; block = (slice_index_or pairs k (0, 0)).0; other = (slice_index_or pairs k (0, 0)).1; worth = x.w; count = x.c }
+pair_at pairs k x = record {
+  kind = Rest;
+  block = (slice_index_or pairs k (0, 0)).0;
+  other = (slice_index_or pairs k (0, 0)).1;
+  worth = x.w;
+  count = x.c;
+}
 
 -- the blocks that the line of a kind names at a place: those of the pair there, or the one of that number
 abbrev pub blocks_named : LineKind → List (ℕ × ℕ) → ℕ → ℕ × ℕ
@@ -81,7 +88,14 @@ blocks_named kind pairs k = (k, 0)
 
 -- the line of a kind for the amount at a place
 abbrev pub line_at : LineKind → List (ℕ × ℕ) → ℕ → Amount → BodyLine
-line_at kind pairs k x = record { kind = kind; block = (blocks_named kind pairs k).0; other = (blocks_named kind pairs k).1; worth = x.w; count = x.c }
+line_at kind pairs k x = record {
+  kind = kind;
+  block = (blocks_named kind pairs k).0;
+  other = (blocks_named kind pairs k).1;
+  worth = x.w;
+  count =
+      x.c;
+}
 
 -- the lines of amounts from place k on; a zero has none
 abbrev pub amount_lines : (ℕ → Amount → BodyLine) → ℕ → List Amount → List BodyLine
@@ -90,7 +104,8 @@ amount_lines line k (x ∷ xs) = cond (is_zero x) (amount_lines line (k + 1) xs)
 
 -- the lines of a flow, in order
 abbrev pub flow_lines : List (ℕ × ℕ) → FlowView → List BodyLine
-flow_lines pairs flow = amount_lines (line_of_block Source) 0 flow.source ++ (amount_lines (pair_at pairs) 0 flow.rest ++ amount_lines (line_of_block Sink) 0 flow.sink)
+flow_lines pairs flow = amount_lines (line_of_block Source) 0 flow.source
+    ++ (amount_lines (pair_at pairs) 0 flow.rest ++ amount_lines (line_of_block Sink) 0 flow.sink)
 
 -- the lines of a pit and a flow, in order
 abbrev pub value_lines : List (ℕ × ℕ) → List ℕ → FlowView → List BodyLine

@@ -51,7 +51,7 @@ pub struct BodyLine {
 }
 
 fn kind_of(key: &[u8]) -> Option<LineKind>
-    ensures { result ≡ spec.kind_of key.now }
+    ensures { result ≡ spec.line_kind_of key.now }
 {
     if key == PIT {
         Some(LineKind::Pit)
@@ -202,7 +202,7 @@ pub fn read_in_order(
     ensures { MatchResult result
         (λ line. IsPieceRead (spec.line_of counts n) pieces.old pieces.new line
         × (spec.may_follow previous line ≡ true))
-        (λ e. spec.line_behind counts n previous
+        (λ e. spec.line_after counts n previous
         (pieces.old.number + 1) (piece_at pieces.old.pieces 0) ≡ Err e) }
 {
     let text = pieces.next_line()?;

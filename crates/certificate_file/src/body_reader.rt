@@ -4,7 +4,7 @@
 ghost use Rattle.std.specs.Prelude.{◌≡◌, length, Some, None, MatchResult};
 ghost use Rattle.certificate_file.specs.BodyLines as spec;
 ghost use Rattle.certificate_file.specs.BodyLines.{body_fault, lines_of_pieces};
-ghost use Rattle.certificate_file.specs.Certificate.{Covers, UnlessMemory, has_pair};
+ghost use Rattle.certificate_file.specs.Certificate.{Covers, UnlessCertMemory, has_pair};
 ghost use Rattle.certificate_file.specs.Gathered.{Adds};
 
 use crate::body_lines::{BodyLine, LineKind, read_in_order};
@@ -24,8 +24,8 @@ pub fn is_end(kind: LineKind) -> bool
 // Nothing may stand after the last line.
 fn read_end(pieces: &Pieces) -> Result<(), CertFault>
     ensures { MatchResult result
-        (λ _. spec.end_fault pieces.now.number pieces.now.pieces ≡ None)
-        (λ e. spec.end_fault pieces.now.number pieces.now.pieces ≡ Some e) }
+        (λ _. spec.cert_end_fault pieces.now.number pieces.now.pieces ≡ None)
+        (λ e. spec.cert_end_fault pieces.now.number pieces.now.pieces ≡ Some e) }
 {
     if pieces.is_done() {
         Ok(())
@@ -47,7 +47,7 @@ pub fn read_body<G: OrderedGroup>(
         × Covers rests.now.blocks (length rests.now.pairs) parts.new.flow
         × Adds rests.now.blocks rests.now.pairs
         (lines_of_pieces G.counts rests.now.blocks pieces.old.pieces) parts.old parts.new)
-        (λ e. UnlessMemory e (body_fault G.counts rests.now.blocks
+        (λ e. UnlessCertMemory e (body_fault G.counts rests.now.blocks
         (has_pair rests.now.pairs) None pieces.old.number pieces.old.pieces ≡ Some e)) }
 {
     let counts = counts::<G>();

@@ -21,9 +21,9 @@ pub enum CertFault {
 
 impl fmt::Display for CertFault {
     ghost use Rattle.std.specs.Prelude.{Some};
-    ghost use Rattle.certificate_file.specs.Certificate.{fault_text};
+    ghost use Rattle.certificate_file.specs.Certificate.{cert_fault_text};
 
-    ghost output = { λ fault. Some (fault_text fault) };
+    ghost output = { λ fault. Some (cert_fault_text fault) };
 
     fn fmt<W: fmt::Write>(&self, f: &mut fmt::Formatter<W>) -> fmt::Result {
         match self {

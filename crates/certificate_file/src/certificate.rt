@@ -4,7 +4,7 @@
 ghost use Rattle.std.specs.Prelude.{◌≡◌, None, Some, Err, MatchResult};
 ghost use Rattle.certificate_file.specs.Pieces.{pieces_of};
 ghost use Rattle.certificate_file.specs.Header.{header_for};
-ghost use Rattle.certificate_file.specs.Certificate.{UnlessMemory, IsRead, fault_of, wanted_for};
+ghost use Rattle.certificate_file.specs.Certificate.{UnlessCertMemory, IsRead, cert_fault_of, wanted_for};
 
 use crate::body_reader::read_body;
 use crate::cert_fault::CertFault;
@@ -42,11 +42,11 @@ pub fn read_certificate<G: OrderedGroup>(
     rests: &Rests,
 ) -> Result<Certificate<G>, CertFault>
     ensures read { MatchResult result
-        (λ c. (fault_of G.counts G.name rests.now.blocks rests.now.pairs text.now ≡ None)
+        (λ c. (cert_fault_of G.counts G.name rests.now.blocks rests.now.pairs text.now ≡ None)
         × IsRead G.counts G.name rests.now.blocks rests.now.pairs text.now
         c.blocks c.price c.pit c.flow)
-        (λ e. UnlessMemory e
-        (fault_of G.counts G.name rests.now.blocks rests.now.pairs text.now ≡ Some e)) }
+        (λ e. UnlessCertMemory e
+        (cert_fault_of G.counts G.name rests.now.blocks rests.now.pairs text.now ≡ Some e)) }
     ensures header { (fault : CertFault)
         → header_for (wanted_for rests.now.blocks G.name) (pieces_of text.now) ≡ Err fault
         → result ≡ Err fault }

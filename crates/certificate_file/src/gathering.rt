@@ -7,7 +7,7 @@ ghost use Rattle.ordered_group.specs.Sums.{amount_at};
 ghost use Rattle.prec_file.specs.Rests.{IsRests};
 ghost use Rattle.closure_net.specs.Network.{IsAscending};
 ghost use Rattle.certificate_file.specs.BodyLines.{is_of_model};
-ghost use Rattle.certificate_file.specs.Certificate.{Covers, UnlessMemory, amount_of, has_pair};
+ghost use Rattle.certificate_file.specs.Certificate.{Covers, UnlessCertMemory, amount_of, has_pair};
 ghost use Rattle.certificate_file.specs.Gathered.{Gathered, Adds};
 
 use crate::body_lines::{BodyLine, LineKind};
@@ -94,7 +94,7 @@ impl<G: OrderedGroup> Parts<G> {
             (λ _. (is_of_model (has_pair rests.now.pairs) line.now.kind line.now ≡ true)
             × Covers rests.now.blocks (length rests.now.pairs) self.new.flow
             × Adds rests.now.blocks rests.now.pairs (line.now ∷ []) self.old self.new)
-            (λ e. UnlessMemory e ((e ≡ CertFault.UnknownPair number)
+            (λ e. UnlessCertMemory e ((e ≡ CertFault.UnknownPair number)
             × (is_of_model (has_pair rests.now.pairs) line.now.kind line.now ≡ false))) }
     {
         match line.kind {

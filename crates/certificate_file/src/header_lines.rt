@@ -39,10 +39,10 @@ pub fn number_below(limit: u32, word: &[u8]) -> Option<u32>
 }
 
 // The second of two words, of which the first is the key.
-fn value_behind<'a>(key: &[u8], text: &'a [u8]) -> Option<&'a [u8]>
+fn value_after<'a>(key: &[u8], text: &'a [u8]) -> Option<&'a [u8]>
     ensures { MatchOption result
-        (spec.value_behind key.now (words_of text.now) ≡ None)
-        (λ v. spec.value_behind key.now (words_of text.now) ≡ Some v.now) }
+        (spec.value_after key.now (words_of text.now) ≡ None)
+        (λ v. spec.value_after key.now (words_of text.now) ≡ Some v.now) }
 {
     let mut words = Words::new(text);
     let first = words.next()?;
@@ -54,10 +54,10 @@ fn value_behind<'a>(key: &[u8], text: &'a [u8]) -> Option<&'a [u8]>
 }
 
 // The third of three words, of which the first two are the keys.
-fn value_behind_both<'a>(key: &[u8], other: &[u8], text: &'a [u8]) -> Option<&'a [u8]>
+fn value_after_both<'a>(key: &[u8], other: &[u8], text: &'a [u8]) -> Option<&'a [u8]>
     ensures { MatchOption result
-        (spec.value_behind_both key.now other.now (words_of text.now) ≡ None)
-        (λ v. spec.value_behind_both key.now other.now (words_of text.now) ≡ Some v.now) }
+        (spec.value_after_both key.now other.now (words_of text.now) ≡ None)
+        (λ v. spec.value_after_both key.now other.now (words_of text.now) ≡ Some v.now) }
 {
     let mut words = Words::new(text);
     let first = words.next()?;
@@ -106,7 +106,7 @@ fn wanted_blocks(wanted: Option<Wanted>, read: Option<u32>) -> Option<u32>
 pub fn blocks_in(wanted: Option<Wanted>, text: &[u8]) -> Result<u32, LineFault>
     ensures { result ≡ spec.blocks_in wanted text.now }
 {
-    let word = value_behind(BLOCKS, text).ok_or(LineFault::Text)?;
+    let word = value_after(BLOCKS, text).ok_or(LineFault::Text)?;
     or_number(wanted_blocks(wanted, number_below(MOST_BLOCKS + 1, word)))
 }
 
@@ -126,7 +126,7 @@ fn mill_of(read: Option<u32>) -> Option<Price>
 fn plain_price_in(text: &[u8]) -> Result<Price, LineFault>
     ensures { result ≡ spec.price_in Version.One text.now }
 {
-    let word = value_behind(PRICE, text).ok_or(LineFault::Text)?;
+    let word = value_after(PRICE, text).ok_or(LineFault::Text)?;
     if word == OBJECTIVE {
         Ok(Price::Objective)
     } else {
@@ -138,7 +138,7 @@ fn plain_price_in(text: &[u8]) -> Result<Price, LineFault>
 fn mill_price_in(text: &[u8]) -> Result<Price, LineFault>
     ensures { result ≡ spec.price_in Version.Two text.now }
 {
-    let word = value_behind_both(PRICE, MILL, text).ok_or(LineFault::Text)?;
+    let word = value_after_both(PRICE, MILL, text).ok_or(LineFault::Text)?;
     or_number(mill_of(number_below(MOST_FACTOR + 1, word)))
 }
 
@@ -169,7 +169,7 @@ fn wanted_group(wanted: Option<Wanted>, group: Group) -> Result<Group, LineFault
 pub fn group_in(wanted: Option<Wanted>, text: &[u8]) -> Result<Group, LineFault>
     ensures { result ≡ spec.group_in wanted text.now }
 {
-    let word = value_behind(GROUP, text).ok_or(LineFault::Text)?;
+    let word = value_after(GROUP, text).ok_or(LineFault::Text)?;
     let group = Group::of_word(word).ok_or(LineFault::Text)?;
     wanted_group(wanted, group)
 }

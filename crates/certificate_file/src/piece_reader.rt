@@ -6,7 +6,7 @@ ghost use Rattle.std.specs.Iterator.{item_count, YieldsFirstBy};
 ghost use Rattle.certificate_file.specs.Pieces.{Unread, pieces_of, piece_at, piece_fault, words_of};
 
 use crate::cert_fault::CertFault;
-use fixed_worth::{LINE_BYTES, behind_first, cut_at, first_line_feed};
+use fixed_worth::{LINE_BYTES, after_first_line, cut_at, first_line_feed};
 use std::marker::Model;
 
 /// The pieces of a text, of which each that ends in a line feed is a line.
@@ -65,7 +65,7 @@ impl<'a> Pieces<'a> {
                     return Err(CertFault::Text(self.number + 1));
                 }
                 let (line, rest) = self.rest.split_at(end);
-                self.rest = behind_first(rest);
+                self.rest = after_first_line(rest);
                 self.number += 1;
                 Ok(line)
             }

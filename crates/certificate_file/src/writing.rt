@@ -4,19 +4,19 @@
 ghost use Rattle.std.specs.Prelude.{◌≡◌, ℕ, ◌+◌, ◌-◌, ◌^◌, ◌<◌, ◌≤◌, All, [], ◌∷◌, ◌++◌, length, map, OnOk, OnErr};
 ghost use Rattle.std.specs.Fmt.{signed_decimal};
 ghost use Rattle.std.specs.Io.KnownBytes.{Appends};
-ghost use Rattle.fixed_worth.specs.Device.{ReceivedPrefix, SentOrHeld};
+ghost use Rattle.counted_devices.specs.Device.{ReceivedPrefix, SentOrHeld};
 ghost use Rattle.ordered_group.specs.Group.{group_name};
 ghost use Rattle.ordered_group.specs.Sums.{amount_at};
 ghost use Rattle.certificate_file.specs.Written as spec;
 ghost use Rattle.certificate_file.specs.Written.{spaced_words, line_words, lines_text, header_words, body_text, end_text, amount_lines, line_at, pit_at, flow_lines, value_lines, certificate_bytes};
 ghost use Rattle.certificate_file.specs.Certificate.{Covers};
-ghost use Rattle.certificate_file.specs.ReadBack.{Writable, AreWritable, IsPrice, IsReadBack};
+ghost use Rattle.certificate_file.specs.ReadBack.{Writable, AreWritable, IsPrice, IsCertReadBack};
 
 use crate::body_lines::{BodyLine, LineKind};
 use crate::certificate::Certificate;
 use crate::header::{Header, Price};
 use closure_net::{Carried, Flow, Pit};
-use fixed_worth::{CountedWrite, Page, ShortLine, WriteFault};
+use counted_devices::{CountedWrite, Page, ShortLine, WriteFault};
 use ordered_group::{Group, OrderedGroup, is_zero};
 use prec_file::Rests;
 
@@ -307,7 +307,7 @@ pub fn write_certificate<G: OrderedGroup, W: CountedWrite>(
         (certificate_bytes G.name rests.now.pairs c.blocks c.price c.pit c.flow)) }
     ensures read_back { OnOk result (let c = certificate.now in let r = rests.now in
         c.blocks ≡ r.blocks → IsPrice c.price → All (λ b. b < r.blocks) c.pit
-        → IsReadBack G.counts G.name r.blocks r.pairs
+        → IsCertReadBack G.counts G.name r.blocks r.pairs
         (certificate_bytes G.name r.pairs c.blocks c.price c.pit c.flow) c.price c.pit c.flow) }
     ensures kept { OnOk result (W.failed out.new ≡ W.failed out.old) }
     ensures prefix { OnErr result (let c = certificate.now in

@@ -1,9 +1,11 @@
 -- What a check of a pit and a flow finds.
 use Rattle.std.specs.Prelude.{◌≡◌, ℕ, ◌<◌, ◌≤◌, Bool, List, length, slice_index_or, All, Contains}
-use Rattle.closure_net.specs.Prelude.{NetView, FlowView, FlowFits, holds_of, Stays, IsClosed, NoneNegative, WithinAt, IsBalancedAt, IsFlow, IsTight}
+use Rattle.closure_net.specs.Prelude.{NetView, FlowView, FlowFits, holds_of, Stays, IsClosed, NoneNegative, WithinAt}
+use Rattle.closure_net.specs.Prelude.{IsBalancedAt, IsFlow, IsTight}
 use Rattle.check_pit.specs.Fits.{BalanceFits, SumsFit, SomeSumOverflows}
 use Rattle.check_pit.specs.declared.pit_fault.PitFault.{PitFault}
-use Rattle.check_pit.specs.declared.pit_fault.PitFault.TheVariants.{WrongSize, NotClosed, Negative, OverCapacity, Unbalanced, NotTight, TooLarge}
+use Rattle.check_pit.specs.declared.pit_fault.PitFault.TheVariants.{WrongSize, NotClosed, Negative, OverCapacity}
+use Rattle.check_pit.specs.declared.pit_fault.PitFault.TheVariants.{Unbalanced, NotTight, TooLarge}
 
 -- the pit has blocks of the net only
 abbrev pub IsOfNet : NetView → List ℕ → Type 0
@@ -36,7 +38,8 @@ IsOpen ps e pair = Contains ps pair × ¬ (Stays e pair)
 
 -- of each pair before this one, the set holds the predecessor, if it holds the block
 abbrev pub StayBefore : List (ℕ × ℕ) → (ℕ → Bool) → ℕ × ℕ → Type 0
-StayBefore ps e pair = (i : ℕ) × (i < length ps) × (slice_index_or ps i (0, 0) ≡ pair) × ((j : ℕ) → j < i → StaysAt ps e j)
+StayBefore ps e pair = (i : ℕ) × (i < length ps) × (slice_index_or ps i (0, 0) ≡ pair)
+    × ((j : ℕ) → j < i → StaysAt ps e j)
 
 -- no amount of the flow is negative
 pub record NoneBelowZero (flow : FlowView) : Type 0 where
@@ -73,7 +76,8 @@ pub record PassesCapacities (net : NetView) (flow : FlowView) (pit : List ℕ) :
 
 -- a block is balanced where the sums of its balance fit, and those of the blocks before it
 abbrev pub BalancedWhileFit : NetView → FlowView → Type 0
-BalancedWhileFit net flow = (b : ℕ) → b < length net.worths → ((k : ℕ) → k ≤ b → BalanceFits net flow k) → IsBalancedAt net flow b
+BalancedWhileFit net flow = (b : ℕ) → b < length net.worths → ((k : ℕ) → k ≤ b → BalanceFits net flow k)
+    → IsBalancedAt net flow b
 
 -- Each fault by itself, whatever else may be wrong, and whether or not it is the first of its kind.
 abbrev pub FaultHolds : NetView → FlowView → List ℕ → PitFault → Type 0
@@ -93,8 +97,10 @@ NoneBefore net flow pit WrongSize = Unit {0}
 NoneBefore net flow pit (NotClosed b p) = Sizes net flow pit × StayBefore net.pairs (holds_of pit) (b, p)
 NoneBefore net flow pit Negative = Sizes net flow pit × IsClosed net.pairs (holds_of pit)
 NoneBefore net flow pit (OverCapacity b) = PassesSigns net flow pit × ((k : ℕ) → k < b → KeepsWithin net flow k)
-NoneBefore net flow pit (Unbalanced b) = PassesCapacities net flow pit × ((k : ℕ) → k < b → BalanceStands net flow k) × BalanceFits net flow b
-NoneBefore net flow pit NotTight = IsFlow net flow × IsOfNet net pit × IsClosed net.pairs (holds_of pit) × SumsFit net flow pit
+NoneBefore net flow pit (Unbalanced b) = PassesCapacities net flow pit × ((k : ℕ) → k < b → BalanceStands net flow k)
+    × BalanceFits net flow b
+NoneBefore net flow pit NotTight = IsFlow net flow × IsOfNet net pit × IsClosed net.pairs (holds_of pit)
+    × SumsFit net flow pit
 NoneBefore net flow pit TooLarge = PassesCapacities net flow pit × BalancedWhileFit net flow
 
 -- the fault holds, and it is the first that does

@@ -33,11 +33,11 @@ pub record IsLeastLacking (test e : ℕ → Bool) (p : ℕ) : Type 0 where
   pub below : (q : ℕ) → q < p → IsTrue (test q) → IsTrue (e q)
 
 -- the lesser of two numbers, of which one may be none
-abbrev pub lesser_of : Option ℕ → ℕ → ℕ
-lesser_of None other = other
-lesser_of (Some one) other = cond (nat_lt one other) one other
+abbrev pub lesser_number : Option ℕ → ℕ → ℕ
+lesser_number None other = other
+lesser_number (Some one) other = cond (nat_lt one other) one other
 
 -- the least block so far, where the set lacks it, and what one way more leads to
 abbrev pub least_with : (ℕ → Bool) → Option ℕ → Option ℕ → Option ℕ
 least_with e least None = least
-least_with e least (Some p) = cond (e p) least (Some (lesser_of least p))
+least_with e least (Some p) = cond (e p) least (Some (lesser_number least p))

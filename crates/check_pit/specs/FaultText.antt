@@ -1,9 +1,10 @@
 -- How faults are printed.
 use Rattle.std.specs.Prelude.{ℕ, List, ◌++◌, codes, decimal}
 pub use Rattle.fixed_worth.specs.FaultText.{at_line}
-use Rattle.certificate_file.specs.Certificate.{fault_text}
+use Rattle.certificate_file.specs.Certificate.{cert_fault_text}
 use Rattle.check_pit.specs.declared.pit_fault.PitFault.{PitFault}
-use Rattle.check_pit.specs.declared.pit_fault.PitFault.TheVariants.{WrongSize, NotClosed, Negative, OverCapacity, Unbalanced, NotTight, TooLarge}
+use Rattle.check_pit.specs.declared.pit_fault.PitFault.TheVariants.{WrongSize, NotClosed, Negative, OverCapacity}
+use Rattle.check_pit.specs.declared.pit_fault.PitFault.TheVariants.{Unbalanced, NotTight, TooLarge}
 use Rattle.check_pit.specs.declared.stream_fault.StreamFault.{StreamFault}
 use Rattle.check_pit.specs.declared.stream_fault.StreamFault.TheVariants as stream
 
@@ -21,5 +22,5 @@ pit_fault_text TooLarge = codes "TooLarge"
 abbrev pub stream_fault_text : StreamFault → List ℕ
 stream_fault_text stream.Device = codes "Device"
 stream_fault_text stream.InputTooLong = codes "InputTooLong"
-stream_fault_text (stream.Cert fault) = fault_text fault
+stream_fault_text (stream.Cert fault) = cert_fault_text fault
 stream_fault_text (stream.Pit fault) = pit_fault_text fault

@@ -1,7 +1,8 @@
 -- Sums over the lines of a certificate, as they are made while the lines are read.
 use Rattle.std.specs.Prelude.{ℕ, ◌<◌, ◌==◌, ◌⊎◌, List, [], ◌∷◌, length, map, slice_index_or, All}
 use Rattle.std.specs.List.{range_with_len}
-use Rattle.ordered_group.specs.Prelude.{Amount, zero_amount, plus, minus, AtMost, FitsPair, positive, negative, total, where_so, amount_at}
+use Rattle.ordered_group.specs.Prelude.{Amount, zero_amount, plus, minus, AtMost, FitsPair, positive, negative, total}
+use Rattle.ordered_group.specs.Prelude.{where_so, amount_at}
 use Rattle.closure_net.specs.Network.{NetView, FlowView, flow_view}
 use Rattle.certificate_file.specs.declared.body_lines.LineKind.{LineKind}
 use Rattle.certificate_file.specs.declared.body_lines.LineKind.TheVariants.{Source, Rest, Sink}
@@ -54,7 +55,8 @@ KeepLimits ws ls = All (λ l. keeps_by l.kind ws l) ls
 abbrev pub flow_of : ℕ → List (ℕ × ℕ) → List BodyLine → FlowView
 flow_of n pairs ls =
     flow_view (map (λ b. given_amount (gives_source b) zero_amount ls) (range_with_len 0 n))
-    (map (λ k. given_amount (gives_rest (slice_index_or pairs k (0, 0))) zero_amount ls) (range_with_len 0 (length pairs)))
+    (map (λ k. given_amount (gives_rest (slice_index_or pairs k (0, 0))) zero_amount ls)
+    (range_with_len 0 (length pairs)))
     (map (λ b. given_amount (gives_sink b) zero_amount ls) (range_with_len 0 n))
 
 -- a sum over the lines doesn't fit: the balance of a block, the worth of the pit, or what the source could still give

@@ -1,6 +1,8 @@
 -- The sums that a check makes while it reads lines.
-use Rattle.std.specs.Prelude.{◌≡◌, ◌↔◌, ℕ, ◌<◌, ◌≤◌, Bool, false, IsTrue, ◌⊎◌, List, [], ◌∷◌, ◌++◌, length, slice_set, Result, MatchResult}
-use Rattle.ordered_group.specs.Prelude.{Amount, zero_amount, plus, minus, AtMost, FitsPair, positive, negative, amount_at}
+use Rattle.std.specs.Prelude.{◌≡◌, ◌↔◌, ℕ, ◌<◌, ◌≤◌, Bool, false, IsTrue, ◌⊎◌, List, [], ◌∷◌, ◌++◌, length, slice_set}
+use Rattle.std.specs.Prelude.{Result, MatchResult}
+use Rattle.ordered_group.specs.Prelude.{Amount, zero_amount, plus, minus, AtMost, FitsPair, positive, negative}
+use Rattle.ordered_group.specs.Prelude.{amount_at}
 use Rattle.prec_file.specs.Rests.{IsFirstNot}
 use Rattle.closure_net.specs.Prelude.{NetView, IsAscending, holds_of, IsBalancedAt, IsTight}
 use Rattle.check_pit.specs.declared.pit_fault.PitFault.{PitFault}
@@ -9,7 +11,8 @@ use Rattle.certificate_file.specs.declared.body_lines.LineKind.{LineKind}
 use Rattle.certificate_file.specs.declared.body_lines.LineKind.TheVariants.{Pit, Source, Rest, Sink, End}
 use Rattle.certificate_file.specs.declared.body_lines.BodyLine.{BodyLine}
 use Rattle.certificate_file.specs.Certificate.{block_if_pit, pit_of, amount_of}
-use Rattle.check_pit.specs.LineSums.{brings_by, balance_of, source_by, worth_of_blocks, residual_after, flow_of, keeps_by, SomeLineSumOverflows}
+use Rattle.check_pit.specs.LineSums.{brings_by, balance_of, source_by, worth_of_blocks, residual_after, flow_of}
+use Rattle.check_pit.specs.LineSums.{keeps_by, SomeLineSumOverflows}
 use Rattle.check_pit.specs.LineLaws.{LinesTell}
 
 -- a balance for each block; the blocks of the pit so far, how many there is space for, and whether they are a pit
@@ -24,11 +27,26 @@ pub record RoomView : Type 0 where
 
 -- the room with another balance of b
 abbrev pub with_balance : ℕ → Amount → RoomView → RoomView
-with_balance b x room = record { balances = slice_set room.balances b x; blocks = room.blocks; space = room.space; is_pit = room.is_pit; worth = room.worth; left = room.left }
+with_balance b x room = record {
+  balances = slice_set room.balances b x;
+  blocks = room.blocks;
+  space = room.space;
+  is_pit = room.is_pit;
+  worth =
+      room.worth;
+  left = room.left;
+}
 
 -- the room with another amount that the source could still give
 abbrev pub with_left : Amount → RoomView → RoomView
-with_left x room = record { balances = room.balances; blocks = room.blocks; space = room.space; is_pit = room.is_pit; worth = room.worth; left = x }
+with_left x room = record {
+  balances = room.balances;
+  blocks = room.blocks;
+  space = room.space;
+  is_pit = room.is_pit;
+  worth = room.worth;
+  left = x;
+}
 
 -- the room has a balance for each block of the net, and space for each, unless its blocks are a pit already
 pub record IsRoomFor (net : NetView) (room : RoomView) : Type 0 where
@@ -58,7 +76,8 @@ pub record MayPut (net : NetView) (room : RoomView) (line : BodyLine) : Type 0 w
 -- a room with what a line brings
 pub record WithLine (net : NetView) (line : BodyLine) (before later : RoomView) : Type 0 where
   pub size : length later.balances ≡ length before.balances
-  pub balances : (b : ℕ) → b < length net.worths → amount_at later.balances b ≡ plus (amount_at before.balances b) (brings_by line.kind line b)
+  pub balances : (b : ℕ) → b < length net.worths → amount_at later.balances b ≡ plus (amount_at before.balances b)
+      (brings_by line.kind line b)
   pub blocks : later.blocks ≡ before.blocks ++ block_if_pit line.kind line.block []
   pub space : later.space ≡ before.space
   pub is_pit : later.is_pit ≡ before.is_pit
@@ -69,7 +88,8 @@ pub record WithLine (net : NetView) (line : BodyLine) (before later : RoomView) 
 abbrev pub SumOverflowsWith : NetView → RoomView → BodyLine → Type 0
 SumOverflowsWith net room l =
     ((b : ℕ) × (b < length net.worths) × ¬ (FitsPair (plus (amount_at room.balances b) (brings_by l.kind l b))))
-    ⊎ (¬ (FitsPair (plus room.worth (worth_of_blocks net.worths (block_if_pit l.kind l.block [])))) ⊎ ¬ (FitsPair (minus room.left (source_by l.kind (amount_of l)))))
+    ⊎ (¬ (FitsPair (plus room.worth (worth_of_blocks net.worths (block_if_pit l.kind l.block []))))
+    ⊎ ¬ (FitsPair (minus room.left (source_by l.kind (amount_of l)))))
 
 -- the amount of a line of this kind is negative
 abbrev pub IsNegative : LineKind → Amount → Type 0
@@ -88,7 +108,8 @@ IsOverLimit _ worth x = ⊥
 -- it is with the line, doesn't fit.
 abbrev pub RefusedWhere : NetView → BodyLine → Type 0 → PitFault → Type 0
 RefusedWhere net l overflows Negative = IsNegative l.kind (amount_of l)
-RefusedWhere net l overflows (OverCapacity b) = (b ≡ l.block) × IsOverLimit l.kind (amount_at net.worths l.block) (amount_of l)
+RefusedWhere net l overflows (OverCapacity b) = (b ≡ l.block)
+    × IsOverLimit l.kind (amount_at net.worths l.block) (amount_of l)
 RefusedWhere net l overflows TooLarge = keeps_by l.kind net.worths l × overflows
 RefusedWhere net l overflows _ = ⊥
 
@@ -113,8 +134,10 @@ RefusesLine net l before e = (ls : List BodyLine) → AreSumsOf net ls before �
 
 -- where the room has the sums over lines that tell of a flow, this is the first block that the flow doesn't balance
 abbrev pub IsFirstUnbalanced : NetView → RoomView → ℕ → Type 0
-IsFirstUnbalanced net room b = (ls : List BodyLine) → LinesTell net ls → AreSumsOf net ls room → IsFirstNot (IsBalancedAt net (flow_of (length net.worths) net.pairs ls)) (length net.worths) b
+IsFirstUnbalanced net room b = (ls : List BodyLine) → LinesTell net ls → AreSumsOf net ls room
+    → IsFirstNot (IsBalancedAt net (flow_of (length net.worths) net.pairs ls)) (length net.worths) b
 
 -- where it has them, whether the pit is tight by that flow
 abbrev pub TellsTight : NetView → RoomView → Bool → Type 0
-TellsTight net room t = (ls : List BodyLine) → LinesTell net ls → AreSumsOf net ls room → IsTrue t ↔ IsTight net (flow_of (length net.worths) net.pairs ls) (holds_of (pit_of ls))
+TellsTight net room t = (ls : List BodyLine) → LinesTell net ls → AreSumsOf net ls room
+    → IsTrue t ↔ IsTight net (flow_of (length net.worths) net.pairs ls) (holds_of (pit_of ls))

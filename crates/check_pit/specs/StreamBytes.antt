@@ -7,4 +7,4 @@ pub record AppendsRead (remaining left : Option (List ℕ)) (before later : List
   pub bytes : List ℕ
   pub given : Consumes remaining left bytes
   pub count : length bytes ≡ n
-  pub behind : later ≡ before ++ bytes
+  pub after : later ≡ before ++ bytes

@@ -1,5 +1,6 @@
 -- What is read of a stream of lines.
-use Rattle.std.specs.Prelude.{◌≡◌, ℕ, ◌+◌, ◌<◌, ◌≤◌, ◌==◌, Bool, true, false, List, [], ◌++◌, length, position, Option, Some}
+use Rattle.std.specs.Prelude.{◌≡◌, ℕ, ◌+◌, ◌<◌, ◌≤◌, ◌==◌, Bool, true, false, List, [], ◌++◌, length, position, Option}
+use Rattle.std.specs.Prelude.{Some}
 use Rattle.std.specs.Io.KnownBytes.{Consumes, IsAtEnd}
 use Rattle.fixed_worth.specs.declared.limits.TheConstants.{LINE_BYTES, MOST_BYTES}
 use Rattle.certificate_file.specs.declared.cert_fault.CertFault.{CertFault}
@@ -10,7 +11,8 @@ use Rattle.check_pit.specs.StreamView.{LineView}
 use Rattle.certificate_file.specs.Pieces.{pieces_of, piece_at, piece_fault}
 
 -- these bytes were read and stand after what was held, and no line was passed
-pub record ReadsBytes {R : Type 0} (remaining : R → Option (List ℕ)) (before later : LineView R) (bytes : List ℕ) : Type 0 where
+pub record ReadsBytes {R : Type 0} (remaining : R → Option (List ℕ)) (before later : LineView R) (bytes : List ℕ) :
+    Type 0 where
   pub given : Consumes (remaining before.from) (remaining later.from) bytes
   pub held : later.held ≡ before.held ++ bytes
   pub taken : later.taken ≡ before.taken + length bytes
@@ -35,7 +37,8 @@ IsNoLine number held e = (future : List ℕ) → piece_fault (number + 1) (piece
 abbrev pub NoLine : {R : Type 0} → Option (List ℕ) → LineView R → StreamFault → Type 0
 NoLine left s Device = Unit {0}
 NoLine left s InputTooLong = MOST_BYTES < s.taken
-NoLine left s (Cert fault.Truncated) = IsAtEnd left × (s.taken ≤ MOST_BYTES) × (piece_fault (s.number + 1) (piece_at (pieces_of s.held) 0) ≡ Some fault.Truncated)
+NoLine left s (Cert fault.Truncated) = IsAtEnd left × (s.taken ≤ MOST_BYTES)
+    × (piece_fault (s.number + 1) (piece_at (pieces_of s.held) 0) ≡ Some fault.Truncated)
 NoLine left s (Cert e) = IsNoLine s.number s.held e
 NoLine left s (Pit e) = ⊥
 

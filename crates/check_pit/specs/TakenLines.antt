@@ -16,7 +16,8 @@ abbrev pub held_piece : ℕ → List ℕ → Piece
 held_piece count held = record { text = take count held; ended = true }
 
 -- these bytes were read, and then a line of so many bytes was passed
-pub record PassesLine {R : Type 0} (remaining : R → Option (List ℕ)) (before later : LineView R) (bytes : List ℕ) (count : ℕ) : Type 0 where
+pub record PassesLine {R : Type 0} (remaining : R → Option (List ℕ)) (before later : LineView R) (bytes : List ℕ)
+    (count : ℕ) : Type 0 where
   pub given : Consumes (remaining before.from) (remaining later.from) bytes
   pub line : IsLine (before.held ++ bytes) count
   pub held : later.held ≡ drop (count + 1) (before.held ++ bytes)
@@ -28,8 +29,10 @@ abbrev pub AlwaysGives : {A : Type 0} → (List ℕ → A → Type 0) → (List 
 AlwaysGives {A = A} gives f = (text : List ℕ) (x : A) → gives text x → x ≡ f text
 
 -- a line was passed, of which f makes x
-abbrev pub TakesLine : {R A : Type 0} → (R → Option (List ℕ)) → (ℕ → Piece → Result A CertFault) → LineView R → LineView R → A → Type 0
-TakesLine remaining f before later x = (bytes : List ℕ) × (count : ℕ) × PassesLine remaining before later bytes count × (f (before.number + 1) (held_piece count (before.held ++ bytes)) ≡ Ok x)
+abbrev pub TakesLine : {R A : Type 0} → (R → Option (List ℕ)) → (ℕ → Piece → Result A CertFault) → LineView R
+    → LineView R → A → Type 0
+TakesLine remaining f before later x = (bytes : List ℕ) × (count : ℕ) × PassesLine remaining before later bytes count
+    × (f (before.number + 1) (held_piece count (before.held ++ bytes)) ≡ Ok x)
 
 -- What a fault of a stream says of its text, whose further bytes are not known: more bytes were read than a stream may
 -- give; or the text ends here, and is cut off; or it has this fault, whatever follows.
@@ -45,8 +48,10 @@ abbrev pub NoPitFault : PitFault → Type 0
 NoPitFault e = ⊥
 
 -- why no further line is taken: what is held begins with no line, or with one that is faulty by f
-abbrev pub NoNextLine : {R A : Type 0} → Option (List ℕ) → (ℕ → Piece → Result A CertFault) → LineView R → StreamFault → Type 0
-NoNextLine left f s e = FaultIs left s.taken (λ future x. f (s.number + 1) (piece_at (pieces_of (s.held ++ future)) 0) ≡ Err x) NoPitFault e
+abbrev pub NoNextLine : {R A : Type 0} → Option (List ℕ) → (ℕ → Piece → Result A CertFault) → LineView R → StreamFault
+    → Type 0
+NoNextLine left f s e = FaultIs left s.taken
+    (λ future x. f (s.number + 1) (piece_at (pieces_of (s.held ++ future)) 0) ≡ Err x) NoPitFault e
 
 -- a line of this length was passed, and nothing read
 pub record LinePassed {R : Type 0} (count : ℕ) (before later : LineView R) : Type 0 where
@@ -56,5 +61,6 @@ pub record LinePassed {R : Type 0} (count : ℕ) (before later : LineView R) : T
   pub number : later.number ≡ before.number + 1
 
 -- no line was passed, and none can be taken
-abbrev pub LacksLine : {R A : Type 0} → (R → Option (List ℕ)) → (ℕ → Piece → Result A CertFault) → LineView R → LineView R → StreamFault → Type 0
+abbrev pub LacksLine : {R A : Type 0} → (R → Option (List ℕ)) → (ℕ → Piece → Result A CertFault) → LineView R
+    → LineView R → StreamFault → Type 0
 LacksLine remaining f before later e = ReadsSome remaining before later × NoNextLine (remaining later.from) f later e

@@ -7,4 +7,5 @@ use Rattle.check_pit.specs.declared.pit_fault.PitFault.TheVariants.{TooLarge}
 
 -- of a pit that a flow proves no fault holds but sums that don't fit, in whatever order faults are looked for
 abbrev pub RefusedForSizeOnly : Type 0
-RefusedForSizeOnly = (net : NetView) (flow : FlowView) (pit : List ℕ) (fault : PitFault) → ProvesPit net flow pit → FaultHolds net flow pit fault → fault ≡ TooLarge
+RefusedForSizeOnly = (net : NetView) (flow : FlowView) (pit : List ℕ) (fault : PitFault) → ProvesPit net flow pit
+    → FaultHolds net flow pit fault → fault ≡ TooLarge

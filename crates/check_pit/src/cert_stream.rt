@@ -17,7 +17,7 @@ use crate::stream_header::read_header;
 use crate::stream_lines::StreamLines;
 use certificate_file::{CertFault, Header};
 use closure_net::{GraphRef, Net};
-use fixed_worth::CountedRead;
+use counted_devices::CountedRead;
 use ordered_group::OrderedGroup;
 use std::alloc::{AllocError, Global};
 use std::marker::Model;

@@ -6,12 +6,28 @@
 //! that comes before it; and a closed, tight pit with a flow whose sums fit is never refused. `check_graph`,
 //! `check_held` and `check_stream` read and check a certificate at once, line by line.
 //!
-//! An example: three blocks are worth 6, 5 and -10, and the first two rest on the third. `Net::build` makes a net of
-//! the worths and the pairs (0, 2) and (1, 2); `Pit::new` the pit of all three; `Flow::new` a flow in which the source
-//! gives 6 and 4, the pairs carry both on, and the sink takes 10. `check` accepts this pit: it is worth 1, which the
-//! source still could give. The pit of the first two is refused as `NotClosed(0, 2)`. As the text of a certificate:
-//! `CertStream::new` takes its device, `header` reads four lines, and `check_stream` the others, with a `Room` for the
-//! sums. Tried in `checker_tests/src/pits_and_flows.rt` and `certificate_streams.rt`.
+//! An example: three blocks are worth 6, 5 and -10, and the first two rest on the third. By a flow in which the source
+//! gives 6 and 4 and the sink takes 10, [`check`] accepts the pit of all three, which is worth 1. Tried in
+//! `checker_tests/src/pits_and_flows.rt`; as the text of a certificate, in `checker_tests/src/certificate_streams.rt`.
+//!
+//! ```rust
+//! net_of(
+//!     alloc,
+//!     &[(0, 2), (1, 2)],
+//!     &[size(6, -1), size(5, -1), size(-10, -1)],
+//! )
+//!
+//! flow_of(
+//!     alloc,
+//!     &[size(6, -1), size(4, 2), size(0, 0)],
+//!     &[size(6, -1), size(4, 2)],
+//!     &[size(0, 0), size(0, 0), size(10, 1)],
+//! )
+//!
+//! let accepted = check(net, pit, flow).ok().ok_or("refused")?;
+//! same(rt, accepted.worth(), size(1, -3));
+//! same(rt, accepted.pit().blocks(), [0, 1, 2].as_slice());
+//! ```
 #![tactic(auto)]
 
 mod accepted;

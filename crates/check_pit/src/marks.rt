@@ -5,7 +5,7 @@ ghost use Rattle.std.specs.Prelude.{◌≡◌, ℕ, ◌<◌, false, length, slic
 ghost use Rattle.closure_net.specs.Network.{holds_of};
 ghost use Rattle.closure_net.specs.Closure.{IsClosed};
 ghost use Rattle.places.specs.Holders.{pairs_lent};
-ghost use Rattle.check_pit.specs.Closing.{HoldsAbove, IsLacking, IsFirstOpen, HoldsEach, IsLeastLacking, least_with, lesser_of};
+ghost use Rattle.check_pit.specs.Closing.{HoldsAbove, IsLacking, IsFirstOpen, HoldsEach, IsLeastLacking, least_with, lesser_number};
 
 use places::{HeldRef, Precedence};
 use prec_file::Predecessors;
@@ -46,7 +46,7 @@ fn first_listed(list: &Predecessors, marks: &[bool], b: u32) -> Option<u32>
 
 // The lesser of two blocks, of which one may be none.
 fn lesser(one: Option<u32>, other: u32) -> u32
-    ensures { result ≡ lesser_of one other }
+    ensures { result ≡ lesser_number one other }
 {
     match one {
         Some(block) if block < other => block,
@@ -104,6 +104,11 @@ fn first_lacking(held: HeldRef<'_>, marks: &[bool], b: u32) -> Option<u32>
             // proof: the pairs that a grid denotes
             let _blocks = grid.len();
             least_placed(grid, marks, b)
+        }
+        HeldRef::Timed(nodes) => {
+            // proof: the pairs that nodes denote
+            let _nodes = nodes.len();
+            least_placed(nodes, marks, b)
         }
     }
 }

@@ -22,7 +22,11 @@ impl Model for PitList {
 
     ghost Value = { PitListView };
 
-    ghost view = { λ p. record { blocks = blocks_of_pit p.blocks.items p.pit; space = vec_capacity p.blocks; is_pit = is_some p.pit } };
+    ghost view = { λ p. record {
+      blocks = blocks_of_pit p.blocks.items p.pit;
+      space = vec_capacity p.blocks;
+      is_pit = is_some p.pit;
+    } };
 }
 
 impl PitList {

@@ -42,7 +42,14 @@ impl<G: OrderedGroup> Model for Room<G> {
 
     ghost Value = { RoomView };
 
-    ghost view = { λ r. record { balances = map G.parts_of r.balances.items; blocks = r.pit.blocks; space = r.pit.space; is_pit = r.pit.is_pit; worth = G.parts_of r.worth; left = G.parts_of r.left } };
+    ghost view = { λ r. record {
+      balances = map G.parts_of r.balances.items;
+      blocks = r.pit.blocks;
+      space = r.pit.space;
+      is_pit = r.pit.is_pit;
+      worth = G.parts_of r.worth;
+      left = G.parts_of r.left;
+    } };
 
     ghost invariant = { λ r. length r.marks.items ≡ length r.balances.items };
 }

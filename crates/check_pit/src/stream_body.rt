@@ -12,7 +12,7 @@ use crate::held_graph::HeldGraph;
 use crate::stream_fault::StreamFault;
 use crate::stream_lines::StreamLines;
 use certificate_file::{BodyLine, CertFault, LineKind, counts, in_line, line_of, may_follow};
-use fixed_worth::CountedRead;
+use counted_devices::CountedRead;
 use ordered_group::OrderedGroup;
 use places::{HeldRef, Precedence};
 
@@ -31,7 +31,7 @@ fn is_of_model(held: HeldRef<'_>, line: &BodyLine) -> bool
 }
 
 // The line of this number that a text is, after another one.
-fn line_behind(
+fn line_after(
     held: HeldRef<'_>,
     counts: bool,
     previous: Option<BodyLine>,
@@ -78,7 +78,7 @@ pub fn next_line<R: CountedRead, G: OrderedGroup>(
     let number = lines.number() + 1;
     let held = net.held();
     let text = lines.front(count);
-    let line = match line_behind(held, counts::<G>(), previous, number, text) {
+    let line = match line_after(held, counts::<G>(), previous, number, text) {
         Ok(line) => line,
         Err(fault) => return Err(StreamFault::Cert(fault)),
     };

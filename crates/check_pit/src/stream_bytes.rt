@@ -5,7 +5,8 @@ ghost use Rattle.std.specs.Io.KnownBytes.{Consumes, Keeps, IsAtEnd};
 ghost use Rattle.fixed_worth.specs.declared.limits.TheConstants.{LINE_BYTES};
 ghost use Rattle.check_pit.specs.StreamBytes.{AppendsRead};
 
-use fixed_worth::{CountedRead, LINE_BYTES};
+use counted_devices::CountedRead;
+use fixed_worth::LINE_BYTES;
 use std::alloc::{AllocError, Global};
 use std::marker::Model;
 
@@ -41,7 +42,7 @@ fn move_to_front(buffer: &mut [u8], start: usize, end: usize)
 }
 
 // Moves a part of the buffer to its front, and reads once into what comes after it.
-fn read_behind<R: CountedRead>(
+fn read_after<R: CountedRead>(
     from: &mut R,
     buffer: &mut [u8],
     start: usize,
@@ -112,7 +113,7 @@ impl StreamBytes {
         ensures nothing { IfNone result (Keeps (R.remaining from.old) (R.remaining from.new)) }
         ensures same { IfNone result (self.new ≡ self.old) }
     {
-        let read = read_behind(from, &mut self.buffer, self.start, self.end);
+        let read = read_after(from, &mut self.buffer, self.start, self.end);
         self.end -= self.start;
         self.start = 0;
         let Some(read) = read else {

@@ -16,7 +16,7 @@ use crate::stream_body::next_line;
 use crate::stream_fault::StreamFault;
 use crate::stream_lines::StreamLines;
 use certificate_file::{BodyLine, CertFault, LineKind, is_end};
-use fixed_worth::CountedRead;
+use counted_devices::CountedRead;
 use ordered_group::OrderedGroup;
 
 fn is_pit(kind: LineKind) -> bool
@@ -100,7 +100,7 @@ pub fn check_lines<R: CountedRead, G: OrderedGroup>(
     room: &mut Room<G>,
 ) -> Result<(), StreamFault>
     requires count { R.failed lines.old.from < 2 ^ 64 - 1 }
-    requires behind { lines.old.number ≡ 4 }
+    requires after { lines.old.number ≡ 4 }
     requires size { length room.old.balances ≡ length net.now.worths }
     ensures size { length room.new.balances ≡ length room.old.balances }
     ensures checked { (bytes : List ℕ) × ReadsOn R.remaining lines.old lines.new bytes

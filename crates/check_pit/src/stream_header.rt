@@ -14,7 +14,7 @@ use crate::stream_lines::StreamLines;
 use certificate_file::{
     CertFault, Header, LineFault, blocks_in, group_in, in_line, price_in, version_in,
 };
-use fixed_worth::CountedRead;
+use counted_devices::CountedRead;
 
 // Passes the line of this length where it was read, and not where it has a fault.
 fn pass_read<R, T>(

@@ -11,7 +11,8 @@ ghost use Rattle.check_pit.specs.StreamLines.{ReadsSome, IsLine, NoLine, MoreOrE
 use crate::stream_bytes::StreamBytes;
 use crate::stream_fault::StreamFault;
 use certificate_file::CertFault;
-use fixed_worth::{CountedRead, LINE_BYTES, MOST_BYTES, first_line_feed};
+use counted_devices::CountedRead;
+use fixed_worth::{LINE_BYTES, MOST_BYTES, first_line_feed};
 use std::marker::Model;
 
 /// A device whose text is cut into lines. It is read only where no whole line is held.

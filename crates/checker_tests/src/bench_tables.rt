@@ -4,7 +4,7 @@
 use crate::prices_and_series::{COST, HIGH, LOW, REVENUE, added, opened, prices};
 use bench_report::{BenchRow, ReportFault, ReportWriteFault, rows, write_report};
 use blocks_file::read_blocks;
-use fixed_worth::Counted;
+use counted_devices::Counted;
 use shells::Series;
 use std::alloc::Global;
 use std::process::Abort;

@@ -10,7 +10,7 @@ use check_pit::{
     Accepted, CertFault, CertStream, Header, PitFault, Price, Room, StreamFault, check_stream,
 };
 use closure_net::Net;
-use fixed_worth::{Counted, Failing, Failure};
+use counted_devices::{Counted, Failing, Failure};
 use ordered_group::{Group, WorthSize};
 use std::alloc::Global;
 use std::process::Abort;

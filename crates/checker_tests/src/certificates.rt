@@ -8,7 +8,8 @@ use crate::pits_and_flows::{is_printed, rests_of, same};
 use check_pit::reading::header;
 use check_pit::{CertFault, Certificate, Header, Price, read_certificate, write_certificate};
 use closure_net::{Carried, Flow};
-use fixed_worth::{Counted, MOST_BLOCKS};
+use counted_devices::Counted;
+use fixed_worth::MOST_BLOCKS;
 use ordered_group::{Group, OrderedGroup, Worth, WorthSize};
 use prec_file::Rests;
 use std::alloc::Global;
@@ -143,7 +144,7 @@ fn texts_that_stop_early_are_truncated(rt: HostRuntime) -> Result<(), Fail> {
 }
 
 #[test]
-fn nothing_stands_behind_the_end(rt: HostRuntime) -> Result<(), Fail> {
+fn nothing_stands_after_the_end(rt: HostRuntime) -> Result<(), Fail> {
     for more in [b"END\n".as_slice(), b"\n".as_slice(), b"x".as_slice()] {
         same(
             &rt,

@@ -10,7 +10,7 @@ use held_pairs::{HeldPairs, held_by_region};
 use ordered_group::WorthSize;
 use prec_file::{Rests, read_predecessors};
 use shells::{Factor, Prices, PricesFault, Series, SeriesFault, Way};
-use slope::Up;
+use slope_offsets::Up;
 use std::alloc::Global;
 use std::fmt::Display;
 use std::process::Abort;
@@ -71,9 +71,11 @@ fn rests(rt: &impl Abort, alloc: Global) -> Rests {
 }
 
 // The same pairs, held by a list.
-fn listed(rt: &impl Abort, alloc: Global) -> HeldPairs {
+fn listed(rt: &(impl Threads + Sync + Abort), alloc: Global) -> HeldPairs {
     let text = Vec::from_slice(alloc, b"0 1 1\n").expect(rt, "memory");
-    let list = read_predecessors(alloc, text, 3).ok().expect(rt, "pairs");
+    let list = read_predecessors(rt, alloc, text, 3, None)
+        .ok()
+        .expect(rt, "pairs");
     HeldPairs::of_list(list)
 }
 
@@ -90,7 +92,7 @@ fn placed(rt: &impl Abort, alloc: Global) -> HeldPairs {
         .expect(rt, "slopes")
 }
 
-pub fn opened(rt: &impl Abort, alloc: Global, prices: Prices) -> Series {
+pub fn opened(rt: &(impl Threads + Sync + Abort), alloc: Global, prices: Prices) -> Series {
     Series::open(alloc, listed(rt, alloc), prices).expect(rt, "series")
 }
 

@@ -5,10 +5,10 @@ use Rattle.ordered_group.specs.declared.groups.Group.{Group}
 use Rattle.closure_net.specs.Mine.{IsPit}
 use Rattle.check_pit.specs.declared.pit_fault.PitFault.{PitFault}
 use Rattle.design_file.specs.Records.{design_of}
-use Rattle.engines.specs.declared.judgement.Judgement.TheVariants.{Refused}
-use Rattle.engines.specs.declared.judgement.Verdict.{Verdict}
-use Rattle.engines.specs.declared.judgement.Verdict.TheVariants.{No}
-use Rattle.engines.specs.Prelude.{CertificateAccepted, CertificateRefused, judgement_line}
+use Rattle.check_engines.specs.declared.judgement.Judgement.TheVariants.{Refused}
+use Rattle.check_engines.specs.declared.judgement.Verdict.{Verdict}
+use Rattle.check_engines.specs.declared.judgement.Verdict.TheVariants.{No}
+use Rattle.check_engines.specs.Prelude.{CertificateAccepted, CertificateRefused, judgement_line}
 use Rattle.mine_inputs.specs.Mines.{MineTexts, DenoteMine, mine_of}
 use Rattle.design_engines.specs.DesignTexts.{IsDesign}
 use Rattle.design_engines.specs.Designs.{DesignView, IsValued, design_text, verdict_for}
@@ -21,7 +21,8 @@ pub record IsDrawn (texts : MineTexts) (design : List ℕ) : Type 0 where
 
 -- The answer tells what the design comes to; a check accepts the certificate, whose pit has so many blocks and is worth
 -- so much; and the gap is what that pit is worth more than the design. It is never negative where the design is a pit.
-pub record IsCompared (texts : MineTexts) (design certificate : List ℕ) (v : DesignView) (count : ℕ) (worth gap : ℤ) : Type 0 where
+pub record IsComparedDesign (texts : MineTexts) (design certificate : List ℕ) (v : DesignView) (count : ℕ)
+    (worth gap : ℤ) : Type 0 where
   pub valued : IsValued texts design v
   pub name : Group
   pub best : CertificateAccepted texts certificate name count worth
@@ -35,21 +36,24 @@ pub data ComparedView : Type 0 where
   unproved : (fault : PitFault) → ComparedView
 
 abbrev pub IsComparison : MineTexts → List ℕ → List ℕ → ComparedView → Type 0
-IsComparison texts design certificate (beside v count worth gap) = IsCompared texts design certificate v count worth gap
-IsComparison texts design certificate (unproved fault) = IsDrawn texts design × CertificateRefused texts certificate fault
+IsComparison texts design certificate (beside v count worth gap) = IsComparedDesign texts design certificate v count
+    worth gap
+IsComparison texts design certificate (unproved fault) = IsDrawn texts design
+    × CertificateRefused texts certificate fault
 
 -- ---- how it is told
 
 -- the line of the pit of a certificate
 abbrev pub best_line : ℕ → ℤ → ℤ → List ℕ
-best_line count worth gap = codes "BEST " ++ (decimal count ++ (codes " " ++ (amount_text 9 worth ++ (codes " GAP " ++ (amount_text 9 gap ++ 10 ∷ [])))))
+best_line count worth gap = codes "BEST "
+    ++ (decimal count ++ (codes " " ++ (amount_text 9 worth ++ (codes " GAP " ++ (amount_text 9 gap ++ 10 ∷ [])))))
 
 -- the lines of a design and that of the pit; or the line of a check that refuses the certificate
-abbrev pub compared_text : ComparedView → List ℕ
-compared_text (beside v count worth gap) = design_text v ++ best_line count worth gap
-compared_text (unproved fault) = judgement_line (Refused fault)
+abbrev pub compared_design_text : ComparedView → List ℕ
+compared_design_text (beside v count worth gap) = design_text v ++ best_line count worth gap
+compared_design_text (unproved fault) = judgement_line (Refused fault)
 
 -- how an engine ends with it
-abbrev pub compared_verdict : ComparedView → Verdict
-compared_verdict (beside v count worth gap) = verdict_for v.leading
-compared_verdict (unproved fault) = No
+abbrev pub compared_design_verdict : ComparedView → Verdict
+compared_design_verdict (beside v count worth gap) = verdict_for v.leading
+compared_design_verdict (unproved fault) = No

@@ -1,7 +1,7 @@
 -- Reading the text of a design, as an engine does.
 use Rattle.std.specs.Prelude.{◌≡◌, ℕ, Bool, List, Some, None}
-use Rattle.design_file.specs.Records.{fault_of, AreMarks}
-use Rattle.mine_inputs.specs.declared.engine_fault.EngineFault.TheVariants as engine
+use Rattle.design_file.specs.Records.{design_fault_of, AreMarks}
+use Rattle.engine_faults.specs.declared.engine_fault.EngineFault.TheVariants as engine
 use Rattle.mine_inputs.specs.Limits.{IsTooLong, IsWithinLimit}
 use Rattle.design_engines.specs.declared.value_fault.DesignProblem.{DesignProblem}
 use Rattle.design_engines.specs.declared.value_fault.DesignProblem.TheVariants as problem
@@ -11,12 +11,12 @@ use Rattle.design_engines.specs.declared.value_fault.ValueFault.TheVariants as v
 -- the text isn't too long, and is a design of some of n blocks
 pub record IsDesign (n : ℕ) (text : List ℕ) : Type 0 where
   pub within : IsWithinLimit text
-  pub sound : fault_of n text ≡ None
+  pub sound : design_fault_of n text ≡ None
 
 -- the text is no design of n blocks: it is too long, or has this fault
 abbrev pub DesignFails : ℕ → List ℕ → DesignProblem → Type 0
 DesignFails n text problem.InputTooLong = IsTooLong text
-DesignFails n text (problem.Fault fault) = IsWithinLimit text × (fault_of n text ≡ Some fault)
+DesignFails n text (problem.Fault fault) = IsWithinLimit text × (design_fault_of n text ≡ Some fault)
 DesignFails n text problem.TooLarge = ⊥
 
 -- the text is a design of n blocks, and these are the marks of its blocks

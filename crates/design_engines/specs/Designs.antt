@@ -5,8 +5,8 @@ use Rattle.fixed_worth.specs.Printed.{amount_text}
 use Rattle.closure_net.specs.Mine.{IsPit, worth_of, block_count_of}
 use Rattle.design_file.specs.Records.{design_of}
 use Rattle.design_value.specs.OpenPairs.{AreOpen}
-use Rattle.engines.specs.declared.judgement.Verdict.{Verdict}
-use Rattle.engines.specs.declared.judgement.Verdict.TheVariants.{Done, No}
+use Rattle.check_engines.specs.declared.judgement.Verdict.{Verdict}
+use Rattle.check_engines.specs.declared.judgement.Verdict.TheVariants.{Done, No}
 use Rattle.mine_inputs.specs.Prelude.{ArePairsBy, MineTexts, DenoteMine, mine_of, rests_of}
 use Rattle.design_engines.specs.DesignTexts.{IsDesign}
 
@@ -48,7 +48,8 @@ open_text (suc k) needs = codes "OPEN " ++ (decimal (suc k) ++ (10 ∷ needs_tex
 
 -- the lines of a design
 abbrev pub design_text : DesignView → List ℕ
-design_text v = codes "DESIGN " ++ (decimal v.count ++ (codes " " ++ (amount_text 9 v.worth ++ (10 ∷ open_text v.leading v.needs))))
+design_text v = codes "DESIGN "
+    ++ (decimal v.count ++ (codes " " ++ (amount_text 9 v.worth ++ (10 ∷ open_text v.leading v.needs))))
 
 -- how an engine ends where so many pairs lead out
 abbrev pub verdict_for : ℕ → Verdict

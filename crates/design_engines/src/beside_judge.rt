@@ -2,22 +2,23 @@
 
 ghost use Rattle.std.specs.Prelude.{◌≡◌, ◌+◌, ◌-◌, ◌^◌, ◌<◌, ℕ, List, length, IfSome, MatchResult, IsErrOf};
 ghost use Rattle.std.specs.Thread.{IsSync};
-ghost use Rattle.engines.specs.Judging.{IsFresh, factor_in};
+ghost use Rattle.check_engines.specs.Judging.{IsFresh, factor_in};
 ghost use Rattle.mine_inputs.specs.Mines.{MineTexts};
 ghost use Rattle.mine_inputs.specs.ReadMines.{IsMineRead};
-ghost use Rattle.mine_inputs.specs.declared.engine_fault.EngineFault.TheVariants as engine;
+ghost use Rattle.engine_faults.specs.declared.engine_fault.EngineFault.TheVariants as engine;
 ghost use Rattle.design_engines.specs.declared.value_fault.ValueFault.TheVariants as value;
-ghost use Rattle.design_engines.specs.Compares.{IsBeside, BesideFails};
+ghost use Rattle.design_engines.specs.Compares.{IsBeside, ComparisonFails};
 ghost use Rattle.design_engines.specs.DesignTexts.{ReadsDesign};
 ghost use Rattle.design_engines.specs.Told.{design_view};
 
 use crate::mine_value::value_of;
 use crate::value_fault::ValueFault;
 use crate::valued::Valued;
+use check_engines::Judgement;
+use check_engines::certificate_judge::{judge_priced, price_mine};
 use check_pit::{CertStream, StreamBytes};
-use engines::certificate_judge::{judge_priced, price_mine};
-use engines::{EngineFault, Judgement};
-use fixed_worth::CountedRead;
+use counted_devices::CountedRead;
+use engine_faults::EngineFault;
 use mine_inputs::HeldMine;
 use std::alloc::Global;
 use std::thread::Threads;
@@ -46,7 +47,7 @@ pub(crate) struct BesideCase<'a, R> {
 /// handed back.
 ///
 /// # Errors
-/// Those of the certificate that `engines::check_engine` has, and `TooLarge` where a sum of the worths of the design's
+/// Those of the certificate that `check_engine` has, and `TooLarge` where a sum of the worths of the design's
 /// blocks doesn't fit.
 pub(crate) fn judge_beside<R: Threads + Sync, C: CountedRead>(
     device: C,
@@ -60,7 +61,7 @@ pub(crate) fn judge_beside<R: Threads + Sync, C: CountedRead>(
         → ReadsDesign case.entry.mine.predecessors.blocks design case.entry.marks.items
         → MatchResult result.1
         (λ b. IsBeside texts design c (design_view b.valued) b.judgement)
-        (BesideFails texts design c)) }
+        (ComparisonFails texts design c)) }
     ensures device { IsErrOf result.1 (value.Engine engine.Device)
         → C.failed result.0 ≡ C.failed device + 1 }
     ensures kept { ¬ IsErrOf result.1 (value.Engine engine.Device)
@@ -89,7 +90,7 @@ fn beside_stream<R: Threads + Sync, C: CountedRead>(
         → ReadsDesign case.entry.mine.predecessors.blocks design case.entry.marks.items
         → MatchResult result
         (λ b. IsBeside texts design c (design_view b.valued) b.judgement)
-        (BesideFails texts design c)) }
+        (ComparisonFails texts design c)) }
     ensures device { IsErrOf result (value.Engine engine.Device)
         → C.failed stream.new.lines.from ≡ C.failed stream.old.lines.from + 1 }
     ensures kept { ¬ IsErrOf result (value.Engine engine.Device)

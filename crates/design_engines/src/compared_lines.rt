@@ -6,12 +6,12 @@ ghost use Rattle.std.specs.Int.{w128};
 ghost use Rattle.std.specs.Io.KnownBytes.{Appends};
 ghost use Rattle.std.specs.String.{string_bytes};
 ghost use Rattle.ordered_group.specs.declared.groups.Group.{Group};
-ghost use Rattle.engines.specs.Checking.{LineFails};
-ghost use Rattle.engines.specs.Judgements.{CertificateAccepted};
+ghost use Rattle.check_engines.specs.Checking.{LineFails};
+ghost use Rattle.check_engines.specs.Judgements.{CertificateAccepted};
 ghost use Rattle.mine_inputs.specs.Mines.{MineTexts};
-ghost use Rattle.mine_inputs.specs.declared.engine_fault.EngineFault.TheVariants as engine;
+ghost use Rattle.engine_faults.specs.declared.engine_fault.EngineFault.TheVariants as engine;
 ghost use Rattle.design_engines.specs.declared.value_fault.ValueFault.TheVariants as value;
-ghost use Rattle.design_engines.specs.Compares.{IsBeside, Compares};
+ghost use Rattle.design_engines.specs.Compares.{IsBeside, ComparesDesign};
 ghost use Rattle.design_engines.specs.Comparisons.{best_line};
 ghost use Rattle.design_engines.specs.Designs.{IsValued, design_text};
 ghost use Rattle.design_engines.specs.Told.{design_view};
@@ -20,9 +20,11 @@ use crate::beside_judge::Beside;
 use crate::design_lines::text_of;
 use crate::value_fault::{DesignProblem, ValueFault};
 use crate::valued::{Valued, verdict_where};
-use engines::judgement_line::write_judgement;
-use engines::{EngineFault, Judgement, Verdict};
-use fixed_worth::{CountedWrite, Nanos, write_text};
+use check_engines::judgement_line::write_judgement;
+use check_engines::{Judgement, Verdict};
+use counted_devices::{CountedWrite, write_text};
+use engine_faults::EngineFault;
+use fixed_worth::Nanos;
 use std::alloc::{AllocError, Global};
 
 /// Writes what a design comes to and, beside it, the pit of a certificate that a check accepts; or the line of a check
@@ -39,7 +41,7 @@ pub(crate) fn tell_beside<W: CountedWrite>(
     requires { W.failed out.old < 2 ^ 64 - 1 }
     ensures answer { (texts : MineTexts) (design c : List ℕ)
         → IsBeside texts design c (design_view beside.valued) beside.judgement
-        → Compares texts design c (W.contents out.old) (W.contents out.new) result }
+        → ComparesDesign texts design c (W.contents out.old) (W.contents out.new) result }
     ensures device { IsErrOf result (value.Engine engine.Device)
         → W.failed out.new ≡ W.failed out.old + 1 }
     ensures kept { ¬ IsErrOf result (value.Engine engine.Device)
@@ -67,7 +69,7 @@ fn tell_gap<W: CountedWrite>(
     ensures answer { (texts : MineTexts) (design c : List ℕ) (name : Group)
         → IsValued texts design (design_view valued.now)
         → CertificateAccepted texts c name count worth
-        → Compares texts design c (W.contents out.old) (W.contents out.new) result }
+        → ComparesDesign texts design c (W.contents out.old) (W.contents out.new) result }
     ensures device { IsErrOf result (value.Engine engine.Device)
         → W.failed out.new ≡ W.failed out.old + 1 }
     ensures kept { ¬ IsErrOf result (value.Engine engine.Device)

@@ -1,27 +1,28 @@
 //! The engine of `value` where a certificate is given: a design beside the pit that the certificate proves.
 
 ghost use Rattle.std.specs.Prelude.{◌≡◌, ◌+◌, ◌-◌, ◌^◌, ◌<◌, IfSome, IsErrOf};
-ghost use Rattle.engines.specs.Judging.{factor_in};
+ghost use Rattle.check_engines.specs.Judging.{factor_in};
 ghost use Rattle.mine_inputs.specs.MineInputs.{ForTexts, CanCount, NoneFailed, OneFailed};
-ghost use Rattle.mine_inputs.specs.declared.engine_fault.EngineFault.TheVariants as engine;
+ghost use Rattle.engine_faults.specs.declared.engine_fault.EngineFault.TheVariants as engine;
 ghost use Rattle.design_engines.specs.declared.value_fault.ValueFault.TheVariants as value;
-ghost use Rattle.design_engines.specs.Compares.{Compares};
+ghost use Rattle.design_engines.specs.Compares.{ComparesDesign};
 
 use crate::beside_judge::{BesideCase, judge_beside};
 use crate::compared_lines::tell_beside;
 use crate::design_input::marks_from;
 use crate::value_fault::ValueFault;
+use check_engines::Verdict;
 use core::mem::replace_with;
-use engines::{MineInputs, Verdict};
-use fixed_worth::{CountedRead, CountedWrite};
-use mine_inputs::held_mine;
+use counted_devices::{CountedRead, CountedWrite};
+use held_pairs::Holder;
+use mine_inputs::{MineInputs, held_mine};
 use std::alloc::Global;
 use std::thread::Threads;
 
 /// Judges a design as [`value_engine`](crate::value_engine) does, and compares it with the pit of a certificate, where
 /// the blocks have prices at the factor that the certificate names.
 ///
-/// Where [`check_engine`](engines::check_engine) would accept the certificate, a last line
+/// Where [`check_engine`](check_engines::check_engine) would accept the certificate, a last line
 /// `BEST count worth GAP amount` comes after the lines of the design. It has the certificate's pit, and by how much
 /// that is worth more than the design: never a negative amount where the design is a pit. `Done` where the design is a
 /// pit, and else `No`. Where the certificate would be refused, the line of that refusal is all that is written: `No`.
@@ -56,7 +57,7 @@ pub fn compare_engine<
     // What it answers and writes, where the readers tell their bytes.
     ensures answer { IfSome (E.remaining design.old) (λ d. IfSome (C.remaining certificate.old)
         (λ c. ForTexts inputs.old D.remaining (factor_in c) (λ texts.
-        Compares texts d c (W.contents out.old) (W.contents out.new) result))) }
+        ComparesDesign texts d c (W.contents out.old) (W.contents out.new) result))) }
 
     // A device is named exactly where one failed.
     ensures device { IsErrOf result (value.Engine engine.Device)
@@ -69,7 +70,7 @@ pub fn compare_engine<
         × (C.failed certificate.new ≡ C.failed certificate.old)
         × (W.failed out.new ≡ W.failed out.old) }
 {
-    let mine = held_mine(alloc, inputs)?;
+    let mine = held_mine(rt, alloc, inputs, Holder::Places)?;
     let marks = marks_from(alloc, design, mine.predecessors.len())?;
     let case = BesideCase {
         rt,

@@ -2,15 +2,16 @@
 
 ghost use Rattle.std.specs.Prelude.{◌≡◌, ◌+◌, ◌-◌, ◌^◌, ◌<◌, ◌≤◌, ◌↔◌, ◌⊎◌, length, IfOk, IfSome, MatchResult, IsErrOf};
 ghost use Rattle.mine_inputs.specs.Limits.{IsTooLong, IsWithinLimit};
-ghost use Rattle.mine_inputs.specs.declared.engine_fault.EngineFault.TheVariants as engine;
+ghost use Rattle.engine_faults.specs.declared.engine_fault.EngineFault.TheVariants as engine;
 ghost use Rattle.design_engines.specs.declared.value_fault.DesignProblem.TheVariants as problem;
 ghost use Rattle.design_engines.specs.declared.value_fault.ValueFault.TheVariants as value;
 ghost use Rattle.design_engines.specs.DesignTexts.{ReadsDesign, DesignReadFails};
 
 use crate::value_fault::{DesignProblem, ValueFault};
+use counted_devices::{CountedRead, InputFault, read_whole};
 use design_file::{DesignFault, read_design};
-use engines::EngineFault;
-use fixed_worth::{CountedRead, InputFault, MOST_BLOCKS, MOST_BYTES, read_whole};
+use engine_faults::EngineFault;
+use fixed_worth::{MOST_BLOCKS, MOST_BYTES};
 use std::alloc::Global;
 
 /// The marks of the blocks of a design, of n blocks. The bytes of its text are given back here.

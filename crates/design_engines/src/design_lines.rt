@@ -4,14 +4,15 @@
 ghost use Rattle.std.specs.Prelude.{◌≡◌, ◌+◌, ◌-◌, ◌^◌, ◌<◌, ◌↔◌, ◌++◌, OnOk, IfOk, IfErr, IsErrOf};
 ghost use Rattle.std.specs.Io.KnownBytes.{Appends};
 ghost use Rattle.std.specs.String.{string_bytes};
-ghost use Rattle.engines.specs.Checking.{LineFails};
+ghost use Rattle.check_engines.specs.Checking.{LineFails};
 ghost use Rattle.design_engines.specs.Designs.{design_text, open_text, needs_line, needs_text};
 ghost use Rattle.design_engines.specs.Told.{design_view};
 
 use crate::valued::Valued;
+use counted_devices::{CountedWrite, write_text};
 use design_value::OpenPairs;
-use engines::EngineFault;
-use fixed_worth::{CountedWrite, Nanos, write_text};
+use engine_faults::EngineFault;
+use fixed_worth::Nanos;
 use std::alloc::{AllocError, Global};
 
 /// Writes the lines of a design: `DESIGN`, the number of blocks and what they are worth; and `CLOSED`, or `OPEN` and
@@ -53,15 +54,15 @@ pub(crate) fn text_of(alloc: Global, valued: &Valued) -> Result<String, AllocErr
 
 // Whether the design is closed: the line `CLOSED`, or `OPEN` with how many pairs lead out of it, and the first of
 // these.
-fn text_of_open(alloc: Global, open: &OpenPairs) -> Result<String, AllocError>
+fn text_of_open(alloc: Global, left: &OpenPairs) -> Result<String, AllocError>
     ensures { IfOk result
-        (λ text. string_bytes text ≡ open_text open.now.count open.now.first.items) }
+        (λ text. string_bytes text ≡ open_text left.now.count left.now.first.items) }
 {
-    let count = open.count;
+    let count = left.count;
     if count == 0 {
         return format!(in alloc; "CLOSED\n");
     }
-    let needs = text_of_needs(alloc, open.first.as_slice())?;
+    let needs = text_of_needs(alloc, left.first.as_slice())?;
     format!(in alloc; "OPEN {count}\n{needs}")
 }
 

@@ -4,7 +4,7 @@
 ghost use Rattle.std.specs.Prelude.{◌≡◌, ◌+◌, ◌-◌, ◌^◌, ◌<◌, ◌↔◌, ℕ, List, length, MatchResult, IsErrOf};
 ghost use Rattle.mine_inputs.specs.Mines.{MineTexts};
 ghost use Rattle.mine_inputs.specs.ReadMines.{AreRead};
-ghost use Rattle.mine_inputs.specs.declared.engine_fault.EngineFault.TheVariants as engine;
+ghost use Rattle.engine_faults.specs.declared.engine_fault.EngineFault.TheVariants as engine;
 ghost use Rattle.design_engines.specs.declared.value_fault.ValueFault.TheVariants as value;
 ghost use Rattle.design_engines.specs.Designs.{IsValued};
 ghost use Rattle.design_engines.specs.DesignTexts.{ReadsDesign};
@@ -14,10 +14,11 @@ ghost use Rattle.design_engines.specs.Told.{design_view};
 use crate::design_lines::write_design;
 use crate::value_fault::{DesignProblem, ValueFault};
 use crate::valued::{Valued, verdict_where};
+use check_engines::Verdict;
 use closure_net::NetFault;
+use counted_devices::CountedWrite;
 use design_value::{count_marked, open_pairs_of, worth_of_marked};
-use engines::{EngineFault, Verdict};
-use fixed_worth::CountedWrite;
+use engine_faults::EngineFault;
 use held_pairs::HeldPairs;
 use std::alloc::Global;
 

@@ -2,14 +2,14 @@
 
 ghost use Rattle.std.specs.Prelude.{◌≡◌, ◌+◌, ◌-◌, ◌^◌, ◌<◌, ◌≤◌, ◌++◌, length, OnOk, OnErr};
 ghost use Rattle.std.specs.Io.KnownBytes.{Appends};
-ghost use Rattle.fixed_worth.specs.Device.{ReceivedPrefix};
+ghost use Rattle.counted_devices.specs.Device.{ReceivedPrefix};
 ghost use Rattle.design_file.specs.Records.{design_fault_text};
 ghost use Rattle.design_engines.specs.FaultText.{design_problem_text, design_problem_words, design_problem_line};
 
 use crate::value_fault::DesignProblem;
+use check_engines::push_at;
+use counted_devices::{CountedWrite, ShortLine, WriteFault, write_text};
 use design_file::DesignFault;
-use engines::push_at;
-use fixed_worth::{CountedWrite, ShortLine, WriteFault, write_text};
 
 /// Writes the line of what is wrong with a design: `fault: design `, and the problem. It takes no memory.
 ///

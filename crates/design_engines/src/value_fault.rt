@@ -1,7 +1,7 @@
 //! Why a design could not be judged: a fault of the design or of its mine, or memory or a device.
 
 use design_file::DesignFault;
-use engines::EngineFault;
+use engine_faults::EngineFault;
 use std::alloc::AllocError;
 
 /// What is wrong with a design.
@@ -38,7 +38,7 @@ impl From<EngineFault> for ValueFault {
 
 impl From<AllocError> for ValueFault {
     ghost use Rattle.std.specs.Prelude.{◌≡◌};
-    ghost use Rattle.mine_inputs.specs.declared.engine_fault.EngineFault.TheVariants as engine;
+    ghost use Rattle.engine_faults.specs.declared.engine_fault.EngineFault.TheVariants as engine;
     ghost use Rattle.design_engines.specs.declared.value_fault.ValueFault.TheVariants as value;
 
     ghost from_gives = { λ _ e. e ≡ value.Engine engine.Memory };

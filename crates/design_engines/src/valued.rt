@@ -4,8 +4,8 @@
 ghost use Rattle.std.specs.Prelude.{◌≡◌};
 ghost use Rattle.design_engines.specs.Designs.{verdict_for};
 
+use check_engines::Verdict;
 use design_value::OpenPairs;
-use engines::Verdict;
 
 /// What a design comes to in a mine.
 #[derive(Drop)]

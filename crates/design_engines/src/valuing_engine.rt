@@ -2,16 +2,17 @@
 
 ghost use Rattle.std.specs.Prelude.{◌≡◌, ◌+◌, ◌-◌, ◌^◌, ◌<◌, IfSome, IsErrOf};
 ghost use Rattle.mine_inputs.specs.MineInputs.{ForTexts, CanCount, NoneFailed, OneFailed};
-ghost use Rattle.mine_inputs.specs.declared.engine_fault.EngineFault.TheVariants as engine;
+ghost use Rattle.engine_faults.specs.declared.engine_fault.EngineFault.TheVariants as engine;
 ghost use Rattle.design_engines.specs.declared.value_fault.ValueFault.TheVariants as value;
 ghost use Rattle.design_engines.specs.Values.{Values};
 
 use crate::design_input::marks_from;
 use crate::mine_value::value_mine;
 use crate::value_fault::ValueFault;
-use engines::{MineInputs, Verdict};
-use fixed_worth::{CountedRead, CountedWrite};
-use mine_inputs::held_mine;
+use check_engines::Verdict;
+use counted_devices::{CountedRead, CountedWrite};
+use held_pairs::Holder;
+use mine_inputs::{MineInputs, held_mine};
 use shells::Factor;
 use std::alloc::Global;
 use std::thread::Threads;
@@ -19,7 +20,7 @@ use std::thread::Threads;
 /// Judges a design, a set of blocks of a mine, where its blocks have prices at the factor that is asked for, and writes
 /// what it comes to.
 ///
-/// The first line is `DESIGN count worth`. Behind it comes `CLOSED` where the design is a pit, which has every block
+/// The first line is `DESIGN count worth`. After it comes `CLOSED` where the design is a pit, which has every block
 /// that a block of it rests on: `Done`. Otherwise `OPEN pairs` comes with how many pairs of the mine lead from a block
 /// of it to one outside, and a line `NEEDS b p` for each of the first 20 of them: `No`.
 ///
@@ -57,7 +58,7 @@ pub fn value_engine<R: Threads + Sync, D: CountedRead, E: CountedRead, W: Counte
         → NoneFailed inputs.old inputs.new D.failed
         × (E.failed design.new ≡ E.failed design.old) × (W.failed out.new ≡ W.failed out.old) }
 {
-    let mine = held_mine(alloc, inputs)?;
+    let mine = held_mine(rt, alloc, inputs, Holder::Places)?;
     let marks = marks_from(alloc, design, mine.predecessors.len())?;
     let nanos = mine.worths.nanos_at(rt, alloc, factor)?;
     let predecessors = mine.predecessors;

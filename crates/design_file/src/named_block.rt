@@ -50,8 +50,8 @@ pub(crate) fn is_open_after(is_open: bool, line: &[u8]) -> bool
 pub(crate) fn block_word(line: &[u8]) -> Option<&[u8]>
     requires { length line.now ≤ LINE_BYTES }
     ensures { MatchOption result
-        (spec.block_word (fields_of line.now) ≡ None)
-        (λ word. spec.block_word (fields_of line.now) ≡ Some word.now) }
+        (spec.design_block_word (fields_of line.now) ≡ None)
+        (λ word. spec.design_block_word (fields_of line.now) ≡ Some word.now) }
 {
     let mut fields = Fields::new(line);
     let first = fields.next()?;

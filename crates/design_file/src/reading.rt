@@ -3,7 +3,7 @@
 
 ghost use Rattle.std.specs.Prelude.{◌≡◌, ◌≤◌, false, length, slice_index_or, None, Some, MatchResult};
 ghost use Rattle.fixed_worth.specs.Text.{fields_of};
-ghost use Rattle.design_file.specs.Records.{AreMarks, UnlessMemory, fault_of, marks_after, record_fault};
+ghost use Rattle.design_file.specs.Records.{AreMarks, UnlessDesignMemory, design_fault_of, design_marks_after, design_record_fault};
 
 use crate::DesignFault;
 use crate::named_block::{block_word, is_open_after, is_passed};
@@ -15,10 +15,10 @@ fn read_line(marks: &mut [bool], line: &[u8], n: u32, number: u64) -> Result<(),
     requires short { length line.now ≤ LINE_BYTES }
     requires all { length marks.old ≡ n }
     ensures { MatchResult result
-        (λ _. (record_fault n (λ b. slice_index_or marks.old b false) number
+        (λ _. (design_record_fault n (λ b. slice_index_or marks.old b false) number
         (fields_of line.now) ≡ None)
-        × (marks.new ≡ marks_after (fields_of line.now) marks.old))
-        (λ e. record_fault n (λ b. slice_index_or marks.old b false) number
+        × (marks.new ≡ design_marks_after (fields_of line.now) marks.old))
+        (λ e. design_record_fault n (λ b. slice_index_or marks.old b false) number
         (fields_of line.now) ≡ Some e) }
 {
     if is_passed(line) {
@@ -56,8 +56,8 @@ fn read_line(marks: &mut [bool], line: &[u8], n: u32, number: u64) -> Result<(),
 pub fn read_design(alloc: Global, text: &[u8], n: u32) -> Result<Vec<bool>, DesignFault>
     requires { n ≤ MOST_BLOCKS }
     ensures { MatchResult result
-        (λ marks. (fault_of n text.now ≡ None) × AreMarks n text.now marks.items)
-        (λ e. UnlessMemory e (fault_of n text.now ≡ Some e)) }
+        (λ marks. (design_fault_of n text.now ≡ None) × AreMarks n text.now marks.items)
+        (λ e. UnlessDesignMemory e (design_fault_of n text.now ≡ Some e)) }
 {
     let mut marks = vec![in alloc; false; n as usize].map_err(|_| DesignFault::NoMemory)?;
     let mut lines = Lines::new(text);

@@ -11,10 +11,10 @@ abbrev pub open_pairs : (ℕ → Bool) → List (ℕ × ℕ) → List (ℕ × �
 open_pairs design pairs = filter (leads_out design) pairs
 
 -- the most pairs that are told
-abbrev pub most_told : ℕ
-most_told = 20
+abbrev pub most_open_told : ℕ
+most_open_told = 20
 
 -- So many pairs lead out, and these are the first of them.
 pub record AreOpen (design : ℕ → Bool) (pairs : List (ℕ × ℕ)) (leading : ℕ) (needs : List (ℕ × ℕ)) : Type 0 where
   pub all : leading ≡ length (open_pairs design pairs)
-  pub first : needs ≡ take most_told (open_pairs design pairs)
+  pub first : needs ≡ take most_open_told (open_pairs design pairs)

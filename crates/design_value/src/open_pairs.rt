@@ -44,7 +44,8 @@ pub fn is_closed<P: Precedence>(held: &P, marks: &[bool]) -> bool
 // Takes in a pair, which leads out or doesn't.
 fn pass_pair(leading: &mut OpenPairs, pair: (u32, u32), leads: bool) -> Result<(), AllocError>
     requires { leading.old.count < 2 ^ 37 }
-    ensures all { OnOk result ((design : ℕ → Bool) (ps : List (ℕ × ℕ)) → leads_out design pair ≡ leads
+    ensures all { OnOk result ((design : ℕ → Bool) (ps : List (ℕ × ℕ))
+        → leads_out design pair ≡ leads
         → AreOpen design ps leading.old.count leading.old.first.items
         → AreOpen design (ps ++ pair ∷ []) leading.new.count leading.new.first.items) }
     ensures few { OnOk result (leading.new.count ≤ leading.old.count + 1) }

@@ -11,10 +11,10 @@ pub mod LineLaws
 pub mod PlainNumbers
 pub mod Powers
 pub mod Shown
-pub mod Pieces
 pub mod DigitsFromEnd
 pub mod Joined
 pub mod WrittenNumbers
+pub mod LineParts
 pub mod NextLine
 pub mod Parts
 pub mod PrintedDigits

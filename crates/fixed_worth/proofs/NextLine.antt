@@ -12,7 +12,8 @@ pub record Next (left next : Left) (k : ℕ) (text : List ℕ) : Type 0 where
   pub same : k ≡ next.number
   pub small : length text ≤ LINE_BYTES
 
-pub next_is : (left next : Left) (k : ℕ) (text : List ℕ) → Next left next k text → numbered_lines left.number left.lines ≡ line k text ∷ numbered_lines next.number next.lines
+pub next_is : (left next : Left) (k : ℕ) (text : List ℕ) → Next left next k text
+    → numbered_lines left.number left.lines ≡ line k text ∷ numbered_lines next.number next.lines
 next_is left next k text h = rw (h.lines, h.same, h.number) refl
 
 pub short : (text : List ℕ) → length text ≤ LINE_BYTES → nat_lt LINE_BYTES (length text) ≡ false

@@ -1,5 +1,7 @@
 -- Powers of ten.
-use Rattle.fixed_worth.proofs.Common.{◌≡◌, ℕ, suc, ◌+◌, ◌-◌, ◌*◌, ◌/◌, ◌%◌, ◌^◌, ◌<◌, ◌≤◌, arith, lit<, pow-add, pow-succ', one-le-pow, mul-le-mul_left, pow-le-pow_right, mul-div_cancel_left, div-div-eq-div-mul, div-mul-add, common_steps}
+use Rattle.fixed_worth.proofs.Common.{◌≡◌, ℕ, suc, ◌+◌, ◌-◌, ◌*◌, ◌/◌, ◌%◌, ◌^◌, ◌<◌, ◌≤◌, arith, lit<, pow-add}
+use Rattle.fixed_worth.proofs.Common.{pow-succ', one-le-pow, mul-le-mul_left, pow-le-pow_right, mul-div_cancel_left}
+use Rattle.fixed_worth.proofs.Common.{div-div-eq-div-mul, div-mul-add, common_steps}
 use Rattle.fixed_worth.specs.Decimal.{rounded_of}
 
 pub ten_positive : (k : ℕ) → 1 ≤ 10 ^ k
@@ -35,9 +37,19 @@ pub rounds_up : (m up down : ℕ) → down ≤ up → rounded_of m up down ≡ m
 unfolding rounded_of
 rounds_up m up down h = grind (arith, common_steps, pow-add, ten_positive, regroup, div-mul-add)
 
-pub rounds_down : (m up down : ℕ) → up < down → rounded_of m up down ≡ (2 * m + 10 ^ (down - up)) / (2 * 10 ^ (down - up))
+pub rounds_down : (m up down : ℕ) → up < down
+    → rounded_of m up down ≡ (2 * m + 10 ^ (down - up)) / (2 * 10 ^ (down - up))
 unfolding rounded_of
-rounds_down m up down h = grind (arith, common_steps, (10 ^ up), (10 ^ (down - up)), (ten_positive up), (pow-add 10 up (down - up)), (div-div-eq-div-mul ((10 ^ up) * (2 * m + (10 ^ (down - up)))) (10 ^ up) (2 * (10 ^ (down - up)))), (mul-div_cancel_left (2 * m + (10 ^ (down - up))) (ten_positive up)))
+rounds_down m up down h = grind (
+  arith,
+  common_steps,
+  (10 ^ up),
+  (10 ^ (down - up)),
+  (ten_positive up),
+  (pow-add 10 up (down - up)),
+  (div-div-eq-div-mul ((10 ^ up) * (2 * m + (10 ^ (down - up)))) (10 ^ up) (2 * (10 ^ (down - up)))),
+  (mul-div_cancel_left (2 * m + (10 ^ (down - up))) (ten_positive up)),
+)
 
 pub rounds_away : (m k : ℕ) → m < 10 ^ 36 → 37 < k → (2 * m + 10 ^ k) / (2 * 10 ^ k) ≡ 0
 rounds_away m k h j = grind (arith, common_steps, ten_least)

@@ -2,7 +2,8 @@
 -- its own's place.
 use Rattle.fixed_worth.proofs.Common.{◌≡◌, Result, Ok, arith, MatchResult, IsErrAnd, OnOk, OnErr, common_steps}
 
-pub ok_before : {T D E : Type 0} (Q : D → E → Type 0) (r : Result T D) (s : Result T E) (x : T) → s ≡ Ok x → MatchResult r (λ y. s ≡ Ok y) (λ d. IsErrAnd s (Q d)) → r ≡ Ok x
+pub ok_before : {T D E : Type 0} (Q : D → E → Type 0) (r : Result T D) (s : Result T E) (x : T) → s ≡ Ok x
+    → MatchResult r (λ y. s ≡ Ok y) (λ d. IsErrAnd s (Q d)) → r ≡ Ok x
 ok_before Q r s x is h = grind (arith, common_steps)
 
 pub on_ok : {X Y P : Type 0} (r : Result X Y) → P → OnOk r P

@@ -1,5 +1,8 @@
 -- A number that is written in decimal is read back.
-use Rattle.fixed_worth.proofs.Common.{◌≡◌, ℕ, suc, ◌+◌, ◌/◌, ◌%◌, ◌^◌, ◌<◌, ◌≤◌, Bool, true, false, not, eqb, List, [], ◌∷◌, ◌++◌, length, Ok, refl, ap, arith, map, is_ok, All, result_unwrap_or, list_all, decimal, and_from, decimal_by_steps_wide, length-decimal-le, common_steps}
+use Rattle.fixed_worth.proofs.Common.{◌≡◌, ℕ, suc, ◌+◌, ◌/◌, ◌%◌, ◌^◌, ◌<◌, ◌≤◌, Bool, true, false, not, eqb, List, []}
+use Rattle.fixed_worth.proofs.Common.{◌∷◌, ◌++◌, length, Ok, refl, ap, arith, map, is_ok, All, result_unwrap_or}
+use Rattle.fixed_worth.proofs.Common.{list_all, decimal, and_from, decimal_by_steps_wide, length-decimal-le}
+use Rattle.fixed_worth.proofs.Common.{common_steps}
 use Rattle.fixed_worth.specs.Prelude.{is_digit, value_of, whole_of, is_remark, reads, number_of, is_separator}
 use Rattle.fixed_worth.proofs.Digits.{value_of-append}
 use Rattle.fixed_worth.proofs.Joined.{all_pass_weaker, is_word, is_one_line}
@@ -11,7 +14,12 @@ record IsWritten (n : ℕ) (text : List ℕ) : Type 0 where
   value : value_of text ≡ n
 
 written_one : (n : ℕ) → n < 10 → IsWritten n ((48 + n) ∷ [])
-written_one n h = record { some = omega arith; digits = and_from (is_digit (48 + n)) true (grind arith) refl; value = omega arith }
+written_one n h = record {
+  some = omega arith;
+  digits = and_from (is_digit (48 + n)) true (grind arith) refl;
+  value =
+      omega arith;
+}
 
 written_more : (n : ℕ) (text : List ℕ) → 10 ≤ n → IsWritten (n / 10) text → IsWritten n (text ++ ((48 + n % 10) ∷ []))
 written_more n text h w = grind (arith, common_steps, value_of-append)
@@ -47,7 +55,8 @@ decimal_is_word n h = grind (arith, common_steps, written, all_pass_weaker, digi
 
 -- it has no line feed
 pub decimal_is_one_line : (n : ℕ) → n < 2 ^ 64 → is_one_line (decimal n) ≡ true
-decimal_is_one_line n h = all_pass_weaker is_digit (λ b. not (eqb b 10)) digit_is_one_line (decimal n) (decimal_digits n (omega arith))
+decimal_is_one_line n h = all_pass_weaker is_digit (λ b. not (eqb b 10)) digit_is_one_line (decimal n)
+    (decimal_digits n (omega arith))
 
 no_remark : (text : List ℕ) → list_all is_digit text ≡ true → is_remark text ≡ false
 no_remark text h = grind (arith, common_steps)
@@ -70,9 +79,11 @@ pub decimals_pass : (test : List ℕ → Bool) → ((n : ℕ) → n < 2 ^ 64 →
     → (ns : List ℕ) → All (λ n. n < 2 ^ 64) ns → list_all test (map decimal ns) ≡ true
 decimals_pass test each [] h = refl
 decimals_pass test each (n ∷ ns) h =
-    and_from (test (decimal n)) (list_all test (map decimal ns)) (each n (h 0 0 (omega arith))) (decimals_pass test each ns (λ k d l. h (suc k) d (omega arith)))
+    and_from (test (decimal n)) (list_all test (map decimal ns)) (each n (h 0 0 (omega arith)))
+    (decimals_pass test each ns (λ k d l. h (suc k) d (omega arith)))
 
 -- they are read as the same numbers
 pub numbers_of-decimals : (ns : List ℕ) → All (λ n. n < 2 ^ 64) ns → map number_of (map decimal ns) ≡ ns
 numbers_of-decimals [] h = refl
-numbers_of-decimals (n ∷ ns) h = rw (number_of-decimal n (h 0 0 (omega arith)), numbers_of-decimals ns (λ k d l. h (suc k) d (omega arith))) refl
+numbers_of-decimals (n ∷ ns) h = rw
+    (number_of-decimal n (h 0 0 (omega arith)), numbers_of-decimals ns (λ k d l. h (suc k) d (omega arith))) refl

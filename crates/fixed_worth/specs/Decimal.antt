@@ -1,5 +1,6 @@
 -- Numerals with a point and an exponent, in millionths.
-use Rattle.std.specs.Prelude.{ℕ, ℤ, ◌+◌, ◌^◌, ◌==◌, ◌||◌, ◌&&◌, Bool, not, cond, List, [], ◌∷◌, ◌++◌, length, nat_lt, nat_le, Option, Some, None, Result, Ok, Err, ◌*◌, ◌/◌}
+use Rattle.std.specs.Prelude.{ℕ, ℤ, ◌+◌, ◌^◌, ◌==◌, ◌||◌, ◌&&◌, Bool, not, cond, List, [], ◌∷◌, ◌++◌, length, nat_lt}
+use Rattle.std.specs.Prelude.{nat_le, Option, Some, None, Result, Ok, Err, ◌*◌, ◌/◌}
 use Rattle.std.specs.Result.{result_ok}
 use Rattle.std.specs.List.{list_all, before_first, after_first, position_or_len}
 use Rattle.fixed_worth.specs.declared.numerals.NumberFault.{NumberFault}
@@ -49,7 +50,8 @@ exponent_digits text = unsigned_of (exponent_of text)
 
 -- Digits, at least one; and after a mark digits, at least one.
 abbrev pub is_decimal : List ℕ → Bool
-is_decimal text = is_number (digits_in text) && (not (has_mark text) || nat_lt 0 (length (exponent_digits text))) && list_all is_digit (exponent_digits text)
+is_decimal text = is_number (digits_in text) && (not (has_mark text) || nat_lt 0 (length (exponent_digits text))) &&
+    list_all is_digit (exponent_digits text)
 
 -- More than 36 digits in the mantissa, or an exponent of more than 40 up or down.
 abbrev pub is_too_long : List ℕ → Bool
@@ -57,7 +59,10 @@ is_too_long text = nat_lt 36 (length (digits_in text)) || nat_lt 40 (value_of (e
 
 -- The value in millionths, without the sign: to the nearest, and away from zero from the middle.
 abbrev pub millionths_of : List ℕ → ℕ
-millionths_of text = rounded_of (value_of (digits_in text)) (cond (is_minus (exponent_of text)) 6 (6 + value_of (exponent_digits text))) (cond (is_minus (exponent_of text)) (length (fraction_part text) + value_of (exponent_digits text)) (length (fraction_part text)))
+millionths_of text = rounded_of (value_of (digits_in text))
+    (cond (is_minus (exponent_of text)) 6 (6 + value_of (exponent_digits text)))
+    (cond (is_minus (exponent_of text)) (length (fraction_part text) + value_of (exponent_digits text))
+    (length (fraction_part text)))
 
 -- The number where it is at most the limit, and else TooLarge.
 abbrev pub most : ℕ → ℕ → Result ℕ NumberFault
@@ -65,7 +70,8 @@ most limit n = cond (nat_le n limit) (Ok n) (Err TooLarge)
 
 -- The value of a numeral in millionths, from -10 ^ 18 to 10 ^ 18 of them, or what is wrong with the numeral.
 abbrev pub decimal_of : List ℕ → Result ℤ NumberFault
-decimal_of text = cond (not (is_decimal text)) (Err NotANumber) (cond (is_too_long text) (Err TooLong) (with_sign (is_minus text) (most (10 ^ 18) (millionths_of text))))
+decimal_of text = cond (not (is_decimal text)) (Err NotANumber)
+    (cond (is_too_long text) (Err TooLong) (with_sign (is_minus text) (most (10 ^ 18) (millionths_of text))))
 
 -- The value that the first of the fields is, or why it is none, where there is a field.
 abbrev pub first_decimal : List WordRun → Option (Result ℤ NumberFault)

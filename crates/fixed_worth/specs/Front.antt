@@ -23,4 +23,5 @@ pub record BeginsWithFraction (text : List ℕ) (value places : ℕ) (rest : Lis
 -- The first field of a text stands at its beginning, and what is left has the others.
 pub record BeginsWithField (text field rest : List ℕ) : Type 0 where
   pub shorter : length rest ≤ length text
-  pub fields : (p : ℕ) → runs_from p text ≡ record { text = field; place = p } ∷ runs_from (p + (length text - length rest)) rest
+  pub fields : (p : ℕ) → runs_from p text ≡ record { text = field; place = p } ∷ runs_from
+      (p + (length text - length rest)) rest

@@ -28,7 +28,7 @@ pub record IsField (line : List ℕ) (field : WordRun) : Type 0 where
   pub slice : field.text ≡ take (length field.text) (drop field.place line)
   pub bytes : EachIndex field.text (λ k. is_separator (slice_index field.text k) ≡ false)
   pub before : (k : ℕ) → k + 1 ≡ field.place → is_separator (slice_index line k) ≡ true
-  pub behind : field.place + length field.text < length line → is_separator (slice_index line (field.place + length field.text)) ≡ true
+  pub past : field.place + length field.text < length line → is_separator (slice_index line (field.place + length field.text)) ≡ true
 
 -- each begins where the one before ends, or later
 abbrev pub AreInOrder : ℕ → List WordRun → Type 0

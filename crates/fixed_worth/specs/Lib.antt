@@ -7,8 +7,6 @@ pub mod Decimal
 pub mod Printed
 -- laws of lines, fields and numbers
 pub mod Laws
--- devices that count their failures
-pub mod Device
 -- how faults print
 pub mod FaultText
 -- for this crate alone: what stands first in a text

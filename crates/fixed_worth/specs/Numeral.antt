@@ -1,5 +1,6 @@
 -- Whole numbers as they are written.
-use Rattle.std.specs.Prelude.{ℕ, ℤ, pos, neg_ℤ, ◌+◌, ◌-◌, ◌*◌, ◌^◌, ◌==◌, ◌||◌, ◌&&◌, Bool, false, not, cond, List, [], ◌∷◌, length, nat_lt, nat_le, Result, Ok, Err}
+use Rattle.std.specs.Prelude.{ℕ, ℤ, pos, neg_ℤ, ◌+◌, ◌-◌, ◌*◌, ◌^◌, ◌==◌, ◌||◌, ◌&&◌, Bool, false, not, cond, List, []}
+use Rattle.std.specs.Prelude.{◌∷◌, length, nat_lt, nat_le, Result, Ok, Err}
 use Rattle.std.specs.List.{list_all}
 use Rattle.fixed_worth.specs.declared.numerals.NumberFault.{NumberFault}
 use Rattle.fixed_worth.specs.declared.numerals.NumberFault.TheVariants.{NotANumber, TooLong, TooLarge}
@@ -23,7 +24,8 @@ is_number text = nat_lt 0 (length text) && list_all is_digit text
 
 -- digits, or what is wrong with them; more than 39 are too many
 abbrev pub digits_of : List ℕ → Result ℕ NumberFault
-digits_of text = cond (not (is_number text)) (Err NotANumber) (cond (nat_lt 39 (length text)) (Err TooLong) (Ok (value_of text)))
+digits_of text = cond (not (is_number text)) (Err NotANumber)
+    (cond (nat_lt 39 (length text)) (Err TooLong) (Ok (value_of text)))
 
 -- the number where it is below the limit, and else TooLarge; a fault stays as it is
 abbrev pub below : ℕ → Result ℕ NumberFault → Result ℕ NumberFault
@@ -51,7 +53,8 @@ with_sign minus (Err e) = Err e
 
 -- an optional sign and digits, for a value from -(2 ^ 127) to 2 ^ 127 - 1
 unfoldable pub signed_of : List ℕ → Result ℤ NumberFault
-signed_of text = with_sign (is_minus text) (below (cond (is_minus text) (2 ^ 127 + 1) (2 ^ 127)) (digits_of (unsigned_of text)))
+signed_of text = with_sign (is_minus text)
+    (below (cond (is_minus text) (2 ^ 127 + 1) (2 ^ 127)) (digits_of (unsigned_of text)))
 
 -- a first digit from 1 to 9
 abbrev pub begins_above_zero : List ℕ → Bool

@@ -1,5 +1,6 @@
 -- Amounts in a power of ten of a unit, as they are printed.
-use Rattle.std.specs.Prelude.{ℕ, ℤ, ◌-◌, ◌/◌, ◌%◌, ◌^◌, ◌==◌, cond, List, [], ◌∷◌, ◌++◌, length, replicate, unsigned_abs}
+use Rattle.std.specs.Prelude.{ℕ, ℤ, ◌-◌, ◌/◌, ◌%◌, ◌^◌, ◌==◌, cond, List, [], ◌∷◌, ◌++◌, length, replicate}
+use Rattle.std.specs.Prelude.{unsigned_abs}
 use Rattle.std.specs.Fmt.{decimal, sign_text}
 use Rattle.std.specs.Int.{is_negative}
 
@@ -23,4 +24,5 @@ fraction_text places n = cond (n == 0) [] (46 ∷ without_trailing_zeros (fixed_
 
 -- an amount of which 10 ^ places make one: an optional minus, the whole part, and the fraction
 unfoldable pub amount_text : ℕ → ℤ → List ℕ
-amount_text places z = sign_text (is_negative z) ++ (decimal (unsigned_abs z / 10 ^ places) ++ fraction_text places (unsigned_abs z % 10 ^ places))
+amount_text places z = sign_text (is_negative z)
+    ++ (decimal (unsigned_abs z / 10 ^ places) ++ fraction_text places (unsigned_abs z % 10 ^ places))

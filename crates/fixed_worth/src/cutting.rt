@@ -4,7 +4,7 @@
 ghost use Rattle.std.specs.Prelude.{◌≡◌, [], ◌∷◌, MatchOption};
 ghost use Rattle.fixed_worth.specs.Text.{parts};
 
-use crate::line_reader::behind_first;
+use crate::line_reader::after_first_line;
 use memchr::memchr;
 
 /// The text before the first `byte` and the text after it, or `None` where `byte` isn't in the text.
@@ -16,7 +16,7 @@ pub fn cut_at<'a>(byte: u8, text: &'a [u8]) -> Option<(&'a [u8], &'a [u8])>
     match memchr(byte, text) {
         Some(end) => {
             let (before, rest) = text.split_at(end);
-            Some((before, behind_first(rest)))
+            Some((before, after_first_line(rest)))
         }
         None => None,
     }

@@ -6,7 +6,7 @@ ghost use Rattle.std.specs.List.{list_all, position_or_len};
 ghost use Rattle.fixed_worth.specs.Numeral.{is_digit, is_number, value_of, is_minus};
 ghost use Rattle.fixed_worth.specs.Decimal.{is_mark, is_point, whole_part, fraction_part, exponent_of, exponent_digits, has_mark, decimal_of, most, rounded_of};
 
-use crate::line_reader::behind_first;
+use crate::line_reader::after_first_line;
 use crate::numerals::{NumberFault, are_digits, has_minus, value, with_digit, without_sign};
 use crate::rounding::rounded;
 
@@ -70,10 +70,10 @@ fn cut(text: &[u8]) -> (Parts<'_>, bool)
 {
     let end = mark_length(text);
     let (front, marked) = text.split_at(end);
-    let exponent = behind_first(marked);
+    let exponent = after_first_line(marked);
     let mantissa = without_sign(front);
     let (whole, pointed) = mantissa.split_at(point_length(mantissa));
-    let fraction = behind_first(pointed);
+    let fraction = after_first_line(pointed);
     let parts = Parts {
         whole,
         fraction,

@@ -42,8 +42,11 @@ pub(crate) fn digits_in_front(text: &[u8]) -> usize
 // Eight bytes as a word, the first in the lowest place.
 #[inline(always)]
 fn word_of(bytes: u8x8) -> u64
-    ensures { result ≡ get_or bytes 0 0 + get_or bytes 1 0 * 2 ^ 8 + get_or bytes 2 0 * 2 ^ 16 + get_or bytes 3 0 * 2 ^ 24
-        + get_or bytes 4 0 * 2 ^ 32 + get_or bytes 5 0 * 2 ^ 40 + get_or bytes 6 0 * 2 ^ 48 + get_or bytes 7 0 * 2 ^ 56 }
+    ensures { result
+        ≡ get_or bytes 0 0 + get_or bytes 1 0 * 2 ^ 8 + get_or bytes 2 0 * 2 ^ 16 + get_or bytes 3 0
+        * 2 ^ 24
+        + get_or bytes 4 0 * 2 ^ 32 + get_or bytes 5 0 * 2 ^ 40 + get_or bytes 6 0 * 2 ^ 48 + get_or
+        bytes 7 0 * 2 ^ 56 }
 {
     u64x1::from_le_bytes(bytes).to_array()[0]
 }
@@ -53,8 +56,12 @@ fn word_of(bytes: u8x8) -> u64
 #[inline(always)]
 fn joined_digits(word: u64) -> u64
     ensures { (a b c d e f g h : ℕ) → a ≤ 9 → b ≤ 9 → c ≤ 9 → d ≤ 9 → e ≤ 9 → f ≤ 9 → g ≤ 9 → h ≤ 9
-        → word ≡ a + b * 2 ^ 8 + c * 2 ^ 16 + d * 2 ^ 24 + e * 2 ^ 32 + f * 2 ^ 40 + g * 2 ^ 48 + h * 2 ^ 56
-        → result ≡ a * 10 ^ 7 + b * 10 ^ 6 + c * 10 ^ 5 + d * 10 ^ 4 + e * 10 ^ 3 + f * 10 ^ 2 + g * 10 + h }
+        → word
+        ≡ a + b * 2 ^ 8 + c * 2 ^ 16 + d * 2 ^ 24 + e * 2 ^ 32 + f * 2 ^ 40 + g * 2 ^ 48 + h * 2
+        ^ 56
+        → result
+        ≡ a * 10 ^ 7 + b * 10 ^ 6 + c * 10 ^ 5 + d * 10 ^ 4 + e * 10 ^ 3 + f * 10 ^ 2 + g * 10 +
+        h }
 {
     let twos = (word.wrapping_mul(10 * 0x100 + 1) >> 8) & 0x00ff_00ff_00ff_00ff;
     let fours = (twos.wrapping_mul(100 * 0x1_0000 + 1) >> 16) & 0x0000_ffff_0000_ffff;

@@ -5,7 +5,7 @@ ghost use Rattle.std.specs.Prelude.{◌≡◌, ℕ, ◌+◌, ◌-◌, ◌*◌, �
 ghost use Rattle.fixed_worth.specs.Decimal.{decimal_of};
 ghost use Rattle.fixed_worth.specs.Front.{BeginsWithField, BeginsWithFraction};
 
-use crate::first_number::{behind_field, leading_digits};
+use crate::first_number::{after_field, leading_digits};
 use crate::millionths::Micros;
 use crate::numerals::{has_minus, without_sign};
 
@@ -96,12 +96,12 @@ pub(crate) fn first_amount(text: &[u8]) -> Option<FirstAmount<'_>>
 {
     let unsigned = without_sign(text);
     let (whole, width) = leading_digits(unsigned);
-    let (_, behind) = unsigned.split_at(width);
-    let fraction = leading_fraction(behind);
+    let (_, past) = unsigned.split_at(width);
+    let fraction = leading_fraction(past);
     if width > 12 || fraction.places > 6 || width + fraction.places == 0 {
         return None;
     }
-    let rest = behind_field(fraction.rest)?;
+    let rest = after_field(fraction.rest)?;
     let size = millionths(whole, fraction.value, fraction.places);
     Some(FirstAmount {
         amount: with_sign(has_minus(text), size),

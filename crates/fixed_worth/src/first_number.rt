@@ -9,7 +9,7 @@ ghost use Rattle.fixed_worth.specs.Text.{is_separator};
 
 use crate::eight_bytes::{WINDOW, digits_in_front, value_in_front};
 use crate::field_reader::is_separator;
-use crate::line_reader::behind_first;
+use crate::line_reader::after_first_line;
 use crate::numerals::is_digit_byte;
 
 // The value of the digits that come first among so many bytes, and how many they are.
@@ -56,7 +56,7 @@ pub(crate) fn leading_digits(text: &[u8]) -> (u64, usize)
 // What is left after a field, where this text follows it: nothing where the text is empty, and where it begins with a
 // separator what comes after that. None where it begins with another byte, since then the field goes on.
 #[inline(always)]
-pub(crate) fn behind_field(text: &[u8]) -> Option<&[u8]>
+pub(crate) fn after_field(text: &[u8]) -> Option<&[u8]>
     ensures rest { IfSome result (λ rest. rest.now ≡ drop 1 text.now) }
     ensures ends { IfSome result (λ rest. 0 < length text.now
         → IsTrue (is_separator (slice_index_or text.now 0 0))) }
@@ -65,7 +65,7 @@ pub(crate) fn behind_field(text: &[u8]) -> Option<&[u8]>
         return Some(text);
     }
     if is_separator(text[0]) {
-        Some(behind_first(text))
+        Some(after_first_line(text))
     } else {
         None
     }
@@ -89,7 +89,7 @@ pub(crate) fn first_number(text: &[u8]) -> Option<FirstNumber<'_>>
     if width == 0 {
         return None;
     }
-    let (_, behind) = text.split_at(width);
-    let rest = behind_field(behind)?;
+    let (_, past) = text.split_at(width);
+    let rest = after_field(past)?;
     Some(FirstNumber { value, rest })
 }

@@ -49,7 +49,7 @@ fn line_length(text: &[u8]) -> usize
 }
 
 /// A text without its first byte; an empty text is left as it is.
-pub fn behind_first(text: &[u8]) -> &[u8]
+pub fn after_first_line(text: &[u8]) -> &[u8]
     ensures { result.now ≡ drop 1 text.now }
 {
     match text {
@@ -78,6 +78,13 @@ impl<'a> Lines<'a> {
         self.number
     }
 
+    /// What is left of the text: its lines are those that are left.
+    pub fn rest(&self) -> &'a [u8]
+        ensures { lines_of result.now ≡ self.now.lines }
+    {
+        self.rest
+    }
+
     /// The next line without its line feed, or `None` after the last one.
     ///
     /// `LineTooLong` if it has more than 65,536 bytes. That line stays the next one, so that the same call answers the
@@ -98,7 +105,7 @@ impl<'a> Lines<'a> {
             return Err(TextFault::LineTooLong);
         }
         let (line, rest) = self.rest.split_at(end);
-        self.rest = behind_first(rest);
+        self.rest = after_first_line(rest);
         self.number += 1;
         Ok(Some(line))
     }

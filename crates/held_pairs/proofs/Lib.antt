@@ -1,2 +1,3 @@
 pub mod FewWays
 pub mod ByRegion
+pub mod HeldLists

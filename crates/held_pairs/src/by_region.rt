@@ -1,15 +1,16 @@
 //! Who rests on whom by the offsets of each block's own region, with no list where a grid holds the places.
 
-ghost use Rattle.std.specs.Prelude.{◌≡◌, map, IfOk, IfSome, MatchResult};
+ghost use Rattle.std.specs.Prelude.{map, IfOk, IfSome, MatchResult};
 ghost use Rattle.slope.specs.Slopes.{AreOwnSlopes, AreRightSlopes, RegionFaultStands, own_offsets};
-ghost use Rattle.slope.specs.declared.selection.Selection.TheVariants.{Every};
+ghost use Rattle.slope_offsets.specs.declared.selection.Selection.TheVariants.{Every};
 
 use crate::offsets::{are_few, lead_up};
 use crate::own_regions::own_regions;
 use crate::pairs::HeldPairs;
 use blocks_file::BlockModel;
 use places::{Precedence, grid_of};
-use slope::{MOST_REGIONS, RegionFault, Selection, Up, predecessors_by_region};
+use slope::{MOST_REGIONS, RegionFault, predecessors_by_region};
+use slope_offsets::{Selection, Up};
 use std::alloc::Global;
 
 // The pairs by a grid of places, where there is one, its blocks have few ways, and nothing is wrong with the regions.
@@ -90,5 +91,37 @@ pub fn held_by_region(
     match placed_by_region(alloc, model, listed, up) {
         Some(held) => Ok(held),
         None => listed_by_region(alloc, model, listed, up),
+    }
+}
+
+/// What the pairs that slopes give are held by.
+#[derive(Clone, Copy)]
+pub enum Holder {
+    /// A list.
+    List,
+    /// Places where a grid has them, and a list otherwise.
+    Places,
+}
+
+/// Who rests on whom in a model of regions, as [`held_by_region`] has it, by the holder that is asked for.
+///
+/// # Errors
+/// Those of `slope::predecessors_by_region`, `TooMany` only where a list has to be made.
+pub fn pairs_by_region(
+    alloc: Global,
+    model: &BlockModel,
+    listed: &[Vec<(i32, i32, i32)>],
+    up: Up,
+    holder: Holder,
+) -> Result<HeldPairs, RegionFault>
+    ensures made { MatchResult result
+        (AreOwnSlopes model.now (own_offsets (map (λ w. w.items) listed.now) model.now) up Every)
+        (RegionFaultStands (map (λ w. w.items) listed.now) model.now up Every) }
+    ensures right { IfOk result (λ _.
+        AreRightSlopes (map (λ w. w.items) listed.now) model.now) }
+{
+    match holder {
+        Holder::List => listed_by_region(alloc, model, listed, up),
+        Holder::Places => held_by_region(alloc, model, listed, up),
     }
 }

@@ -1,10 +1,10 @@
 //! Whether the offsets of regions are right: each leads up, and no region has too many.
 
 ghost use Rattle.std.specs.Prelude.{All, IsTrue, map};
-ghost use Rattle.slope.specs.Offsets.{IsUpward};
+ghost use Rattle.slope_offsets.specs.Offsets.{IsUpward};
 ghost use Rattle.slope.specs.Slopes.{AreAllUpward, HaveAllFew};
 
-use slope::MOST_OFFSETS;
+use slope_offsets::MOST_OFFSETS;
 
 // Whether each of these offsets leads up.
 fn all_upward(offsets: &[(i32, i32, i32)]) -> bool

@@ -1,4 +1,3 @@
-pub mod Failed
 pub mod MineDevices
 pub mod Priced
 pub mod PriceKeys

@@ -1,5 +1,7 @@
 -- The pairs of a text, as a list in order and as a test.
-use Rattle.fixed_worth.proofs.Common.{◌≡◌, ◌↔◌, ℕ, Bool, true, false, not, ◌==◌, List, get_or, refl, IsTrue, arith, list_any, Contains, and_parts, and_from, eq-eqb, ne_eqb, get_or_default, Any-from_list_any, list_any_at, common_steps}
+use Rattle.fixed_worth.proofs.Common.{◌≡◌, ◌↔◌, ℕ, Bool, true, false, not, ◌==◌, List, get_or, refl, IsTrue, arith}
+use Rattle.fixed_worth.proofs.Common.{list_any, Contains, and_parts, and_from, eq-eqb, ne_eqb, get_or_default}
+use Rattle.fixed_worth.proofs.Common.{Any-from_list_any, list_any_at, common_steps}
 use Rattle.prec_file.specs.Rests.{ArePairsOf, AreApart}
 use Rattle.prec_file.proofs.Pairs.{is_pair, tells_pair, pair_told}
 use Rattle.prec_file.proofs.OneListing.{one_listing}
@@ -18,7 +20,8 @@ differ : (b p : ℕ) → not (b == p) ≡ true → b ≡ p → ⊥
 differ b p h e = let t : not (b == p) ≡ false = rw (eq-eqb b p e) refl in cc
 
 -- the pairs in order are those that the test has
-pub listed_rests : (listed ps : List (ℕ × ℕ)) → ArePairsOf listed ps → (b p : ℕ) → Contains ps (b, p) ↔ IsTrue (rests_by listed b p)
+pub listed_rests : (listed ps : List (ℕ × ℕ)) → ArePairsOf listed ps → (b p : ℕ)
+    → Contains ps (b, p) ↔ IsTrue (rests_by listed b p)
 listed_rests listed ps a b p = (
   λ c. let o = a.only (b, p) c in and_from _ _ (apart b p o.1) (is_listed listed b p o.0),
   λ h. let t = and_parts _ _ h in a.held (b, p) (where_listed listed b p t.1) (differ b p t.0),
@@ -28,7 +31,8 @@ pub by_listed : (listed ps : List (ℕ × ℕ)) → ArePairsOf listed ps → Are
 by_listed listed ps a = record { rising = a.rising; same = listed_rests listed ps a }
 
 -- one test has one list of pairs
-pub pairs_same : (rests : ℕ → ℕ → Bool) (x y : List (ℕ × ℕ)) → AreApart x → ArePairsBy rests x → ArePairsBy rests y → x ≡ y
+pub pairs_same : (rests : ℕ → ℕ → Bool) (x y : List (ℕ × ℕ)) → AreApart x → ArePairsBy rests x → ArePairsBy rests y
+    → x ≡ y
 pairs_same rests x y apart a b =
     let there : (q : ℕ × ℕ) → Contains x q → Contains y q = λ q c. (b.same q.0 q.1).1 ((a.same q.0 q.1).0 c) in
     let back : (q : ℕ × ℕ) → Contains y q → Contains x q = λ q c. (a.same q.0 q.1).1 ((b.same q.0 q.1).0 c) in

@@ -7,21 +7,24 @@ use Rattle.prec_file.specs.declared.prec_fault.PrecFault.{PrecFault}
 use Rattle.blocks_file.specs.declared.blocks_fault.BlocksFault.{BlocksFault}
 use Rattle.settings_file.specs.declared.settings_fault.SettingsFault.{SettingsFault}
 use Rattle.shells.specs.declared.prices_fault.PricesFault.{PricesFault}
-use Rattle.mine_inputs.specs.declared.engine_fault.Problem.{Problem}
-use Rattle.mine_inputs.specs.declared.engine_fault.Problem.TheVariants as problem
-use Rattle.mine_inputs.specs.declared.engine_fault.EngineFault.{EngineFault}
-use Rattle.mine_inputs.specs.declared.engine_fault.EngineFault.TheVariants as engine
+use Rattle.engine_faults.specs.declared.engine_fault.Problem.{Problem}
+use Rattle.engine_faults.specs.declared.engine_fault.Problem.TheVariants as problem
+use Rattle.engine_faults.specs.declared.engine_fault.EngineFault.{EngineFault}
+use Rattle.engine_faults.specs.declared.engine_fault.EngineFault.TheVariants as engine
 use Rattle.mine_inputs.specs.Limits.{IsTooLong, IsWithinLimit}
-use Rattle.mine_inputs.specs.declared.engine_fault.SlopeProblem.{SlopeProblem}
+use Rattle.engine_faults.specs.declared.engine_fault.SlopeProblem.{SlopeProblem}
 use Rattle.settings_file.specs.Settings.{settings_of}
-use Rattle.mine_inputs.specs.PricedTexts.{price_keys, slope_keys, SettingsFails, PricedBlocksFail, PricedBlocksFailBy, PricesFail, PricesFailBy}
-use Rattle.mine_inputs.specs.SlopedTexts.{PlacesRead, SlopesFail, placed_in, placing_keys, prices_and_slopes, sloped_keys, slopes_alone}
-use Rattle.mine_inputs.specs.Mines.{MineTexts, mine_texts, priced_texts, sloped_texts, valued_texts, worth_by, WorthsRead}
+use Rattle.mine_inputs.specs.PricedTexts.{price_keys, slope_keys, SettingsFails, PricedBlocksFail, PricedBlocksFailBy}
+use Rattle.mine_inputs.specs.PricedTexts.{PricesFail, PricesFailBy}
+use Rattle.mine_inputs.specs.SlopedTexts.{PlacesRead, SlopesFail, placed_in, placing_keys, prices_and_slopes}
+use Rattle.mine_inputs.specs.SlopedTexts.{sloped_keys, slopes_alone}
+use Rattle.mine_inputs.specs.Mines.{MineTexts, mine_texts, priced_texts, sloped_texts, valued_texts, worth_by_texts}
+use Rattle.mine_inputs.specs.Mines.{WorthsRead}
 
 -- the values of n blocks aren't read: their text is too long, or has this fault
 abbrev pub ValuesFailFor : ℕ → List ℕ → Problem UpitFault → Type 0
 ValuesFailFor n text problem.InputTooLong = IsTooLong text
-ValuesFailFor n text (problem.Fault fault) = IsWithinLimit text × (upit.fault_of n text ≡ Some fault)
+ValuesFailFor n text (problem.Fault fault) = IsWithinLimit text × (upit.upit_fault_of n text ≡ Some fault)
 
 -- the values are no text of values: too long, or a fault where as many blocks are wanted as the text declares
 abbrev pub UpitFails : List ℕ → Problem UpitFault → Type 0
@@ -35,7 +38,7 @@ PrecFails n text (problem.Fault fault) = IsWithinLimit text × (prec.fault_of n 
 -- the worths of the mine's blocks, in a list
 pub record AreWorths (texts : MineTexts) (n : ℕ) (worths : List ℤ) : Type 0 where
   pub size : length worths ≡ n
-  pub each : (b : ℕ) → b < n → slice_index_or worths b (pos 0) ≡ worth_by texts b
+  pub each : (b : ℕ) → b < n → slice_index_or worths b (pos 0) ≡ worth_by_texts texts b
 
 -- a fault of the values of blocks, where texts of values denote the mine: beside blocks, of as many as these are
 abbrev pub ValuesFail : MineTexts → Problem UpitFault → Type 0
@@ -73,8 +76,10 @@ PrecedenceFails (valued_texts settings blocks values) n p = ⊥
 
 -- a fault of the slopes that settings list, where they stand in the place of a precedence
 abbrev pub MineSlopesFail : MineTexts → SlopeProblem → Type 0
-MineSlopesFail (sloped_texts settings blocks factor) p = SlopesFail (settings_of settings) (placed_in (settings_of settings) blocks) p
-MineSlopesFail (valued_texts settings blocks values) p = SlopesFail (settings_of settings) (placed_in (settings_of settings) blocks) p
+MineSlopesFail (sloped_texts settings blocks factor) p = SlopesFail (settings_of settings)
+    (placed_in (settings_of settings) blocks) p
+MineSlopesFail (valued_texts settings blocks values) p = SlopesFail (settings_of settings)
+    (placed_in (settings_of settings) blocks) p
 MineSlopesFail _ p = ⊥
 
 -- Why the texts of a mine aren't read: the fault stands, and none before it does. Want of memory and a failing device

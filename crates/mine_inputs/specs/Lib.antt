@@ -8,9 +8,10 @@ pub mod Limits
 pub mod MineInputs
 pub mod ReadMines
 pub mod Worths
--- what reading each input gives, when it answers a fault, and how that prints
+-- the ways to treat its blocks
+pub mod Ways
+-- what reading each input gives, and when it answers a fault
 pub mod Inputs
 pub mod FaultStands
-pub mod EngineFaults
 -- the names of all of them
 pub mod Prelude

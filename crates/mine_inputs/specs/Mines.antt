@@ -46,11 +46,11 @@ price_wanted (sloped_texts settings blocks factor) = price_of (table_of settings
 price_wanted (valued_texts settings blocks values) = Objective
 
 -- what block b is worth, in billionths: by its value in millionths, or by the prices at the factor
-abbrev pub worth_by : MineTexts → ℕ → ℤ
-worth_by (mine_texts values precedence) b = pos 1000 *ℤ upit.value_at values b
-worth_by (priced_texts settings blocks precedence factor) b = worth_at (table_of settings blocks) factor b
-worth_by (sloped_texts settings blocks factor) b = worth_at (table_of settings blocks) factor b
-worth_by (valued_texts settings blocks values) b = pos 1000 *ℤ upit.value_at values b
+abbrev pub worth_by_texts : MineTexts → ℕ → ℤ
+worth_by_texts (mine_texts values precedence) b = pos 1000 *ℤ upit.upit_value_at values b
+worth_by_texts (priced_texts settings blocks precedence factor) b = worth_at (table_of settings blocks) factor b
+worth_by_texts (sloped_texts settings blocks factor) b = worth_at (table_of settings blocks) factor b
+worth_by_texts (valued_texts settings blocks values) b = pos 1000 *ℤ upit.upit_value_at values b
 
 -- b rests on p where the pair is listed and they are two blocks
 abbrev pub rests_by : List (ℕ × ℕ) → ℕ → ℕ → Bool
@@ -60,23 +60,25 @@ rests_by listed b p = not (b == p) && has_pair listed b p
 abbrev pub rests_of : MineTexts → ℕ → ℕ → Bool
 rests_of (mine_texts values precedence) = rests_by (prec.pairs_of_text precedence)
 rests_of (priced_texts settings blocks precedence factor) = rests_by (prec.pairs_of_text precedence)
-rests_of (sloped_texts settings blocks factor) = rests_said (settings_of settings) (placed_in (settings_of settings) blocks)
-rests_of (valued_texts settings blocks values) = rests_said (settings_of settings) (placed_in (settings_of settings) blocks)
+rests_of (sloped_texts settings blocks factor) = rests_said (settings_of settings)
+    (placed_in (settings_of settings) blocks)
+rests_of (valued_texts settings blocks values) = rests_said (settings_of settings)
+    (placed_in (settings_of settings) blocks)
 
 -- The mine of n blocks that texts denote.
 abbrev pub mine_of : ℕ → MineTexts → Mine
-mine_of n texts = record { blocks = n; rests = rests_of texts; worth = worth_by texts }
+mine_of n texts = record { blocks = n; rests = rests_of texts; worth = worth_by_texts texts }
 
 -- The text of values isn't too long, declares n blocks and has no fault.
 pub record ValuesRead (text : List ℕ) (n : ℕ) : Type 0 where
   pub within : IsWithinLimit text
   pub declared : upit.declared_of text ≡ Ok n
-  pub read : upit.fault_of n text ≡ None
+  pub read : upit.upit_fault_of n text ≡ None
 
 -- The text of values isn't too long, and has no fault where n blocks are wanted: another number is one.
 pub record ValuesReadFor (text : List ℕ) (n : ℕ) : Type 0 where
   pub within : IsWithinLimit text
-  pub read : upit.fault_of n text ≡ None
+  pub read : upit.upit_fault_of n text ≡ None
 
 -- the texts that say what the blocks are worth are read, and say it of n blocks
 abbrev pub WorthsRead : MineTexts → ℕ → Type 0
@@ -94,8 +96,10 @@ pub record PrecedenceRead (text : List ℕ) (n : ℕ) : Type 0 where
 abbrev pub RestsRead : MineTexts → ℕ → Type 0
 RestsRead (mine_texts values precedence) n = PrecedenceRead precedence n
 RestsRead (priced_texts settings blocks precedence factor) n = PrecedenceRead precedence n
-RestsRead (sloped_texts settings blocks factor) n = SlopesRead (settings_of settings) (placed_in (settings_of settings) blocks)
-RestsRead (valued_texts settings blocks values) n = SlopesRead (settings_of settings) (placed_in (settings_of settings) blocks)
+RestsRead (sloped_texts settings blocks factor) n = SlopesRead (settings_of settings)
+    (placed_in (settings_of settings) blocks)
+RestsRead (valued_texts settings blocks values) n = SlopesRead (settings_of settings)
+    (placed_in (settings_of settings) blocks)
 
 -- The texts denote a mine of n blocks: what blocks are worth is read, and who rests on whom.
 pub record DenoteMine (texts : MineTexts) (n : ℕ) : Type 0 where

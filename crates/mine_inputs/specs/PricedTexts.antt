@@ -1,19 +1,22 @@
 -- What a text of settings and a text of blocks say together of prices.
-use Rattle.std.specs.Prelude.{◌≡◌, ℕ, ◌+◌, ◌*◌, ℤ, pos, Bool, true, false, List, [], ◌∷◌, ◌++◌, length, map, slice_index_or, Option, Some, None, unwrap_or, Err}
+use Rattle.std.specs.Prelude.{◌≡◌, ℕ, ◌+◌, ◌*◌, ℤ, pos, Bool, true, false, List, [], ◌∷◌, ◌++◌, length, map}
+use Rattle.std.specs.Prelude.{slice_index_or, Option, Some, None, unwrap_or, Err}
 use Rattle.std.specs.List.{range_with_len}
 use Rattle.blocks_file.specs.Records as blocks
 use Rattle.blocks_file.specs.Denotes.{BlocksView}
 use Rattle.blocks_file.specs.declared.blocks_fault.BlocksFault.{BlocksFault}
 use Rattle.settings_file.specs.declared.keys.Key.{Key}
-use Rattle.settings_file.specs.declared.keys.Key.TheVariants.{Revenue, Cost, Processing, Mining, Slopes, Region, Up, Ways}
+use Rattle.settings_file.specs.declared.keys.Key.TheVariants.{Revenue, Cost, Processing, Mining, Slopes, Region, Up}
+use Rattle.settings_file.specs.declared.keys.Key.TheVariants.{Ways}
 use Rattle.settings_file.specs.declared.settings_fault.SettingsFault.{SettingsFault}
 use Rattle.settings_file.specs.declared.settings_fault.SettingsFault.TheVariants as settings_fault
 use Rattle.settings_file.specs.declared.ways.WayColumns.{WayColumns}
-use Rattle.settings_file.specs.Settings.{SettingsView, ReadsSettings, AreSettings, settings_of, is_said, names_mill, first_missing, first_said}
+use Rattle.settings_file.specs.Settings.{SettingsView, ReadsSettings, AreSettings, settings_of, is_said, names_mill}
+use Rattle.settings_file.specs.Settings.{first_missing, first_said}
 use Rattle.shells.specs.Prices.{WayView, PricesView, plain_prices, treated_prices, NoRevenueNegative, PricesFaultStands}
 use Rattle.shells.specs.declared.prices_fault.PricesFault.{PricesFault}
-use Rattle.mine_inputs.specs.declared.engine_fault.Problem.{Problem}
-use Rattle.mine_inputs.specs.declared.engine_fault.Problem.TheVariants as problem
+use Rattle.engine_faults.specs.declared.engine_fault.Problem.{Problem}
+use Rattle.engine_faults.specs.declared.engine_fault.Problem.TheVariants as problem
 use Rattle.mine_inputs.specs.declared.columns_of_prices.PriceColumns.{PriceColumns}
 use Rattle.mine_inputs.specs.declared.columns_of_prices.PriceColumns.TheVariants.{Plain, Treated}
 use Rattle.mine_inputs.specs.Limits.{IsTooLong, IsWithinLimit}
@@ -166,7 +169,7 @@ prices_alone = record { needed = price_keys; unused = slope_keys; chosen = price
 pub record PricesReadBy (w : Wanted) (settings text : List ℕ) (n : ℕ) : Type 0 where
   pub columns : KeysSaid w.needed w.unused settings
   pub within : IsWithinLimit text
-  pub read : blocks.fault_of (w.chosen (settings_of settings)) text ≡ None
+  pub read : blocks.blocks_fault_of (w.chosen (settings_of settings)) text ≡ None
   pub count : blocks.record_count_of text ≡ n
   pub revenues : NoRevenueNegative (table_of settings text)
 
@@ -178,18 +181,23 @@ PricesRead settings text n = PricesReadBy prices_alone settings text n
 -- that isn't used, or one that is missing; want of memory isn't one
 abbrev pub SettingsFaultStands : (SettingsView → List Key) → List Key → List ℕ → SettingsFault → Type 0
 SettingsFaultStands needed unused text settings_fault.NoMemory = ⊥
-SettingsFaultStands needed unused text (settings_fault.Unused key) = AreSettings text × (first_unused unused (settings_of text) ≡ Some key)
-SettingsFaultStands needed unused text (settings_fault.Missing key) = AreSettings text × (first_missing (needed (settings_of text)) (settings_of text) ≡ Some key) × (first_unused unused (settings_of text) ≡ None)
+SettingsFaultStands needed unused text (settings_fault.Unused key) = AreSettings text
+    × (first_unused unused (settings_of text) ≡ Some key)
+SettingsFaultStands needed unused text (settings_fault.Missing key) = AreSettings text
+    × (first_missing (needed (settings_of text)) (settings_of text) ≡ Some key)
+    × (first_unused unused (settings_of text) ≡ None)
 SettingsFaultStands needed unused text fault = ReadsSettings text (Err fault)
 
 -- the settings aren't read: their text is too long, or this fault of it stands
 abbrev pub SettingsFails : (SettingsView → List Key) → List Key → List ℕ → Problem SettingsFault → Type 0
 SettingsFails needed unused text problem.InputTooLong = IsTooLong text
-SettingsFails needed unused text (problem.Fault fault) = IsWithinLimit text × SettingsFaultStands needed unused text fault
+SettingsFails needed unused text (problem.Fault fault) = IsWithinLimit text
+    × SettingsFaultStands needed unused text fault
 
 -- a fault of the blocks, of which the settings name the columns
 abbrev pub PricedBlocksFailBy : Wanted → List ℕ → List ℕ → Problem BlocksFault → Type 0
-PricedBlocksFailBy w settings text p = KeysSaid w.needed w.unused settings × BlocksFails (w.chosen (settings_of settings)) text p
+PricedBlocksFailBy w settings text p = KeysSaid w.needed w.unused settings
+    × BlocksFails (w.chosen (settings_of settings)) text p
 
 -- a fault of the blocks, of which the settings name the columns of prices, where the precedence is a text of its own
 abbrev pub PricedBlocksFail : List ℕ → List ℕ → Problem BlocksFault → Type 0
@@ -199,7 +207,7 @@ PricedBlocksFail settings text p = PricedBlocksFailBy prices_alone settings text
 pub record PricesFailBy (w : Wanted) (settings text : List ℕ) (fault : PricesFault) : Type 0 where
   pub columns : KeysSaid w.needed w.unused settings
   pub within : IsWithinLimit text
-  pub read : blocks.fault_of (w.chosen (settings_of settings)) text ≡ None
+  pub read : blocks.blocks_fault_of (w.chosen (settings_of settings)) text ≡ None
   pub stands : PricesFaultStands (table_of settings text) fault
 
 -- the columns are no table of prices for this reason, where the precedence is a text of its own

@@ -9,13 +9,14 @@ use Rattle.settings_file.specs.declared.keys.Key.{Key}
 use Rattle.settings_file.specs.declared.keys.Key.TheVariants.{Slopes, Ways}
 use Rattle.settings_file.specs.declared.up_sign.UpSign.{UpSign}
 use Rattle.settings_file.specs.declared.up_sign.UpSign.TheVariants.{Plus, Minus}
-use Rattle.slope.specs.Prelude.{AreRightSlopes, Offset, RegionFaultStands, rests_by_slopes}
-use Rattle.slope.specs.declared.selection.Selection.TheVariants.{Every}
-use Rattle.slope.specs.declared.up.Up.{Up}
-use Rattle.slope.specs.declared.up.Up.TheVariants.{PlusZ, MinusZ}
+use Rattle.slope.specs.Prelude.{AreRightSlopes, RegionFaultStands, rests_by_slopes}
+use Rattle.slope_offsets.specs.Prelude.{Offset}
+use Rattle.slope_offsets.specs.declared.selection.Selection.TheVariants.{Every}
+use Rattle.slope_offsets.specs.declared.up.Up.{Up}
+use Rattle.slope_offsets.specs.declared.up.Up.TheVariants.{PlusZ, MinusZ}
 use Rattle.slope.specs.declared.region_fault.RegionFault.TheVariants as region
-use Rattle.mine_inputs.specs.declared.engine_fault.SlopeProblem.{SlopeProblem}
-use Rattle.mine_inputs.specs.declared.engine_fault.SlopeProblem.TheVariants as of
+use Rattle.engine_faults.specs.declared.engine_fault.SlopeProblem.{SlopeProblem}
+use Rattle.engine_faults.specs.declared.engine_fault.SlopeProblem.TheVariants as of
 use Rattle.mine_inputs.specs.Limits.{IsWithinLimit}
 use Rattle.mine_inputs.specs.PricedTexts.{KeysSaid, Wanted, cells, columns_beside, columns_said, keys_by}
 
@@ -61,7 +62,8 @@ SlopesFail s m _ = ⊥
 abbrev pub model_in : List ℕ → List ℕ → BlocksView
 model_in chosen text = record {
   blocks = blocks.record_count_of text;
-  places = map (λ b. blocks.place_of_record (blocks.record_among (blocks.lines_in text) b)) (range_with_len 0 (blocks.record_count_of text));
+  places = map (λ b. blocks.place_of_record (blocks.record_among (blocks.lines_in text) b))
+      (range_with_len 0 (blocks.record_count_of text));
   columns = map (cells text) chosen;
 }
 
@@ -93,7 +95,7 @@ slopes_alone = record { needed = placing_keys; unused = []; chosen = region_colu
 pub record PlacesRead (settings text : List ℕ) (n : ℕ) : Type 0 where
   pub keys : KeysSaid placing_keys [] settings
   pub within : IsWithinLimit text
-  pub read : blocks.fault_of (region_columns (settings_of settings)) text ≡ None
+  pub read : blocks.blocks_fault_of (region_columns (settings_of settings)) text ≡ None
   pub count : blocks.record_count_of text ≡ n
 
 -- the place of the column of regions after so many others, where settings name it

@@ -5,8 +5,8 @@ ghost use Rattle.settings_file.specs.Settings.{names_mill, first_missing, is_sai
 ghost use Rattle.mine_inputs.specs.PricedTexts.{keys_by, columns_said, place_beside};
 ghost use Rattle.mine_inputs.specs.Inputs.{IsMissing};
 
-use crate::engine_fault::{EngineFault, Problem};
 use crate::way_list::WayList;
+use engine_faults::{EngineFault, Problem};
 use settings_file::{Key, Settings, SettingsFault, WayColumns};
 
 /// The columns of blocks that have their prices.
@@ -27,8 +27,12 @@ pub enum PriceColumns {
 pub fn price_columns(settings: &Settings, others: &[Key]) -> Result<PriceColumns, EngineFault>
     ensures columns { MatchResult result
         (λ columns. (columns ≡ columns_said settings.now)
-        × (first_missing (keys_by (is_said settings.now Key.Ways) (names_mill settings.now) others.now) settings.now ≡ None))
-        (IsMissing (keys_by (is_said settings.now Key.Ways) (names_mill settings.now) others.now) settings.now) }
+        × (first_missing
+        (keys_by (is_said settings.now Key.Ways) (names_mill settings.now) others.now)
+        settings.now ≡ None))
+        (IsMissing
+        (keys_by (is_said settings.now Key.Ways) (names_mill settings.now) others.now)
+        settings.now) }
     ensures no_device { ¬ IsErrOf result EngineFault.Device }
 {
     if let Some(ways) = settings.ways() {
@@ -70,7 +74,8 @@ fn cost_column(settings: &Settings, others: &[Key]) -> Result<u32, EngineFault>
 // The columns of a mill's charges, processing and mining, where the other keys are there too.
 fn mill_columns(settings: &Settings, others: &[Key]) -> Result<(u32, u32), EngineFault>
     ensures columns { MatchResult result
-        (λ charges. (charges ≡ (unwrap_or settings.now.processing 0, unwrap_or settings.now.mining 0))
+        (λ charges. (charges
+        ≡ (unwrap_or settings.now.processing 0, unwrap_or settings.now.mining 0))
         × (first_missing (others.now ++ (Key.Processing ∷ Key.Mining ∷ [])) settings.now ≡ None))
         (IsMissing (others.now ++ (Key.Processing ∷ Key.Mining ∷ [])) settings.now) }
     ensures no_device { ¬ IsErrOf result EngineFault.Device }

@@ -1,38 +1,38 @@
-//! Reads the inputs of a mine, or its precedence alone: who rests on whom is held by a list, or by the places of the
-//! blocks where settings list slopes, so that no list is made of them.
+//! Reads the inputs of a mine, or who rests on whom by slopes alone. Where settings list slopes the pairs are held by a
+//! list or by the places of the blocks, as is asked, and by these no list is made.
 
-ghost use Rattle.std.specs.Prelude.{◌≡◌, ◌+◌, ◌-◌, ◌^◌, ◌<◌, ◌≤◌, ◌↔◌, ℕ, List, length, IfOk, IfSome, MatchResult, IsErrOf};
-ghost use Rattle.fixed_worth.specs.declared.limits.TheConstants.{MOST_BLOCKS};
+ghost use Rattle.std.specs.Prelude.{◌≡◌, ◌+◌, ◌-◌, ◌^◌, ◌<◌, ℕ, List, length, IfSome, MatchResult, IsErrOf};
 ghost use Rattle.blocks_file.specs.Denotes.{narrowed};
 ghost use Rattle.mine_inputs.specs.FaultStands.{MineFails};
-ghost use Rattle.mine_inputs.specs.Inputs.{AreSlopedTexts, AreValuedTexts, PairsSaidFail, ReadsPrec, PrecReadFails};
+ghost use Rattle.mine_inputs.specs.Inputs.{AreSlopedTexts, AreValuedTexts, PairsSaidFail};
 ghost use Rattle.mine_inputs.specs.MineInputs.{ForTexts, CanCount, NoneFailed, OneFailed};
 ghost use Rattle.mine_inputs.specs.Mines.{sloped_texts, valued_texts};
 ghost use Rattle.mine_inputs.specs.PricedTexts.{columns_beside};
 ghost use Rattle.mine_inputs.specs.ReadMines.{ArePairsBy, IsMineRead};
 ghost use Rattle.mine_inputs.specs.SlopedTexts.{SlopesRead, column_after, columns_for, rests_said};
 
-use crate::checked_mine::{HeldMine, MineToCheck};
 use crate::columns_of_prices::place_beside;
-use crate::engine_fault::EngineFault;
-use crate::inputs::predecessors_from;
-use crate::mines::{MineInputs, listed_mine};
+use crate::mine_kinds::HeldMine;
+use crate::mines::{MineInputs, mine_of_prec};
 use crate::priced_inputs::prices_of;
 use crate::sloped_inputs::up_of;
-use crate::sloped_mines::{SlopedTexts, column_after, sloped_texts_from, slopes_of};
-use crate::valued_mines::{ValuedTexts, valued_texts_from};
+use crate::sloped_texts::{SlopedTexts, column_after, sloped_texts_from, slopes_of};
+use crate::valued_texts::{ValuedTexts, valued_texts_from};
 use crate::worths::Worths;
 use blocks_file::BlockModel;
-use fixed_worth::CountedRead;
-use held_pairs::{HeldPairs, held_by_region};
+use counted_devices::CountedRead;
+use engine_faults::EngineFault;
+use held_pairs::{HeldPairs, Holder, pairs_by_region};
 use settings_file::Settings;
 use std::alloc::Global;
+use std::thread::Threads;
 
 // Who rests on whom by the slopes that settings list.
 fn held_said(
     alloc: Global,
     model: &BlockModel,
     settings: &Settings,
+    holder: Holder,
 ) -> Result<HeldPairs, EngineFault>
     ensures pairs { MatchResult result
         (λ rests. (rests.blocks ≡ model.now.blocks) × SlopesRead settings.now model.now
@@ -42,7 +42,7 @@ fn held_said(
 {
     let slopes = slopes_of(settings);
     let up = up_of(settings.up());
-    match held_by_region(alloc, model, slopes, up) {
+    match pairs_by_region(alloc, model, slopes, up, holder) {
         Ok(found) => Ok(found),
         Err(fault) => Err(EngineFault::from(fault)),
     }
@@ -52,13 +52,14 @@ fn held_said(
 /// which region each is, where the settings name it. No list of pairs is made, if a grid holds the places.
 ///
 /// # Errors
-/// `Blocks` where two blocks have one place, `Slope` where a region isn't one of the settings, or where a list has to be
-/// made and would have too many pairs. `Memory` where memory is refused.
+/// `Blocks` where two blocks have one place, `Slope` where a region isn't one of the settings, or where a list has to
+/// be made and would have too many pairs. `Memory` where memory is refused.
 pub fn held_by_slopes(
     alloc: Global,
     model: &BlockModel,
     others: u32,
     settings: &Settings,
+    holder: Holder,
 ) -> Result<HeldPairs, EngineFault>
     requires { IfSome (column_after others settings.now.region)
         (λ i. i < length model.now.columns) }
@@ -73,11 +74,11 @@ pub fn held_by_slopes(
     ensures no_device { ¬ IsErrOf result EngineFault.Device }
 {
     let placed = model.narrowed(alloc, column_after(others, settings.region()))?;
-    held_said(alloc, &placed, settings)
+    held_said(alloc, &placed, settings, holder)
 }
 
 // The mine of the blocks that were read.
-fn held_of_texts(alloc: Global, read: SlopedTexts) -> Result<HeldMine, EngineFault>
+fn held_of_texts(alloc: Global, read: SlopedTexts, holder: Holder) -> Result<HeldMine, EngineFault>
     requires { length read.model.columns
         ≡ length (columns_beside read.columns (columns_for read.settings.region)) }
     ensures read { (factor : ℕ) (s b : List ℕ)
@@ -96,7 +97,7 @@ fn held_of_texts(alloc: Global, read: SlopedTexts) -> Result<HeldMine, EngineFau
     // proof: no revenue of prices is negative
     let _blocks = prices.len();
     let others = place_beside(&columns);
-    let predecessors = held_by_slopes(alloc, &model, others, &settings)?;
+    let predecessors = held_by_slopes(alloc, &model, others, &settings, holder)?;
     Ok(HeldMine {
         worths: Worths::Prices(prices),
         predecessors,
@@ -108,6 +109,7 @@ fn held_sloped<D: CountedRead>(
     alloc: Global,
     settings: &mut D,
     blocks: &mut D,
+    holder: Holder,
 ) -> Result<HeldMine, EngineFault>
     requires settings_room { D.failed settings.old < 2 ^ 64 - 1 }
     requires blocks_room { D.failed blocks.old < 2 ^ 64 - 1 }
@@ -124,11 +126,11 @@ fn held_sloped<D: CountedRead>(
         × (D.failed blocks.new ≡ D.failed blocks.old) }
 {
     let read = sloped_texts_from(alloc, settings, blocks)?;
-    held_of_texts(alloc, read)
+    held_of_texts(alloc, read, holder)
 }
 
 // The mine of the blocks and the values that were read.
-fn held_of_values(alloc: Global, read: ValuedTexts) -> Result<HeldMine, EngineFault>
+fn held_of_values(alloc: Global, read: ValuedTexts, holder: Holder) -> Result<HeldMine, EngineFault>
     ensures read { (factor : ℕ) (s b v : List ℕ)
         → AreValuedTexts s b v read.settings read.model read.values
         → MatchResult result
@@ -141,19 +143,28 @@ fn held_of_values(alloc: Global, read: ValuedTexts) -> Result<HeldMine, EngineFa
         model,
         values,
     } = read;
-    let predecessors = held_said(alloc, &model, &settings)?;
+    let predecessors = held_said(alloc, &model, &settings, holder)?;
     Ok(HeldMine {
         worths: Worths::Values(values),
         predecessors,
     })
 }
 
+// How the pairs are held, and how many threads read the values.
+#[derive(Clone, Copy)]
+struct Asked {
+    holder: Holder,
+    threads: Option<u32>,
+}
+
 // The mine that settings, blocks and values denote.
-fn held_valued<D: CountedRead>(
+fn held_valued<R: Threads + Sync, D: CountedRead>(
+    rt: &R,
     alloc: Global,
     settings: &mut D,
     blocks: &mut D,
     upit: &mut D,
+    asked: Asked,
 ) -> Result<HeldMine, EngineFault>
     requires settings_room { D.failed settings.old < 2 ^ 64 - 1 }
     requires blocks_room { D.failed blocks.old < 2 ^ 64 - 1 }
@@ -171,58 +182,23 @@ fn held_valued<D: CountedRead>(
         × (D.failed blocks.new ≡ D.failed blocks.old)
         × (D.failed upit.new ≡ D.failed upit.old) }
 {
-    let read = valued_texts_from(alloc, settings, blocks, upit)?;
-    held_of_values(alloc, read)
+    let read = valued_texts_from(rt, alloc, settings, blocks, upit, asked.threads)?;
+    held_of_values(alloc, read, asked.holder)
 }
 
-/// Who rests on whom among n blocks, by a text that lists it.
+/// The mine that its texts denote: where slopes say who rests on whom, by the holder that is asked for. Which factor
+/// the prices count at is asked later.
 ///
 /// # Errors
-/// Those of [`crate::predecessors_from`].
-pub fn held_from<R: CountedRead>(
-    alloc: Global,
-    from: &mut R,
-    n: u32,
-) -> Result<HeldPairs, EngineFault>
-    requires blocks { n ≤ MOST_BLOCKS }
-    requires room { R.failed from.old < 2 ^ 64 - 1 }
-    ensures read { IfSome (R.remaining from.old) (λ text. MatchResult result
-        (ReadsPrec n text)
-        (PrecReadFails n text)) }
-    ensures size { IfOk result (λ rests. rests.blocks ≡ n) }
-    ensures device { IsErrOf result EngineFault.Device
-        ↔ (R.failed from.new ≡ R.failed from.old + 1) }
-    ensures kept { ¬ IsErrOf result EngineFault.Device → R.failed from.new ≡ R.failed from.old }
-{
-    match predecessors_from(alloc, from, n) {
-        Ok(list) => Ok(HeldPairs::of_list(list)),
-        Err(fault) => Err(fault),
-    }
-}
-
-// The mine that a list of pairs was read for, as one that holds them.
-fn held_listed(mine: MineToCheck) -> HeldMine
-    ensures worths { result.worths ≡ mine.worths }
-    ensures pairs { result.predecessors ≡ mine.predecessors }
-{
-    let MineToCheck {
-        worths,
-        predecessors,
-    } = mine;
-    HeldMine {
-        worths,
-        predecessors: HeldPairs::of_list(predecessors),
-    }
-}
-
-/// The mine that its texts denote, as a check of a certificate needs it: where slopes say who rests on whom, no list of
-/// pairs is made, if a grid holds the places.
-///
-/// # Errors
-/// Those of [`crate::mine_to_check`].
-pub fn held_mine<D: CountedRead>(
+/// Of values: `Upit`. Of prices, in this order: `Settings` for a fault of this text or a missing key; `Blocks`;
+/// `Prices` for a negative revenue. Of values beside slopes, in this order: `Settings`; `Blocks`; `Upit`, also where
+/// there are more or fewer values than blocks. Then `Prec`; or, where slopes say what rests on what, `Slope` with the
+/// first fault of `predecessors_by_region`. `Memory` where memory is refused, `Device` where a read fails.
+pub fn held_mine<R: Threads + Sync, D: CountedRead>(
+    rt: &R,
     alloc: Global,
     inputs: &mut MineInputs<D>,
+    holder: Holder,
 ) -> Result<HeldMine, EngineFault>
     requires { CanCount inputs.old D.failed }
     ensures read { (factor : ℕ)
@@ -234,15 +210,20 @@ pub fn held_mine<D: CountedRead>(
     ensures kept { ¬ IsErrOf result EngineFault.Device → NoneFailed inputs.old inputs.new D.failed }
 {
     match inputs {
-        MineInputs::Listed { worths, prec } => match listed_mine(alloc, worths, prec) {
-            Ok(mine) => Ok(held_listed(mine)),
-            Err(fault) => Err(fault),
-        },
-        MineInputs::Sloped { settings, blocks } => held_sloped(alloc, settings, blocks),
+        MineInputs::Listed {
+            worths,
+            prec,
+            threads,
+        } => mine_of_prec(rt, alloc, worths, prec, *threads),
+        MineInputs::Sloped { settings, blocks } => held_sloped(alloc, settings, blocks, holder),
         MineInputs::Valued {
             settings,
             blocks,
             upit,
-        } => held_valued(alloc, settings, blocks, upit),
+            threads,
+        } => {
+            let threads = *threads;
+            held_valued(rt, alloc, settings, blocks, upit, Asked { holder, threads })
+        }
     }
 }

@@ -4,11 +4,14 @@ ghost use Rattle.std.specs.Prelude.{◌≡◌, ◌+◌, ◌-◌, ◌^◌, ◌<�
 ghost use Rattle.mine_inputs.specs.BlockTexts.{ReadsBlocks, BlocksReadFails};
 ghost use Rattle.mine_inputs.specs.Inputs.{ReadsPrec, PrecReadFails, ReadsValues, ValuesReadFail, unread_fault};
 
-use crate::engine_fault::{EngineFault, Problem};
 use blocks_file::{BlockModel, MOST_COLUMNS, read_blocks};
-use fixed_worth::{CountedRead, InputFault, MOST_BLOCKS, MOST_BYTES, read_whole};
+use counted_devices::{CountedRead, InputFault, read_whole};
+use engine_faults::{EngineFault, Problem};
+use fixed_worth::{MOST_BLOCKS, MOST_BYTES};
+use held_pairs::HeldPairs;
 use prec_file::{Predecessors, read_predecessors};
 use std::alloc::Global;
+use std::thread::Threads;
 use upit_file::{Upit, read_upit};
 
 /// What is answered where an input can't be read to its end: this fault where it is too long.
@@ -50,11 +53,13 @@ pub fn blocks_from<R: CountedRead>(
     }
 }
 
-// The values of n blocks.
-pub(crate) fn values_from<R: CountedRead>(
+// The values of n blocks. So many threads read the text at once, or as many as `read_upit` chooses.
+pub(crate) fn values_from<T: Threads + Sync, R: CountedRead>(
+    rt: &T,
     alloc: Global,
     from: &mut R,
     n: u32,
+    threads: Option<u32>,
 ) -> Result<Upit, EngineFault>
     requires { R.failed from.old < 2 ^ 64 - 1 }
     ensures read { IfSome (R.remaining from.old) (λ text. MatchResult result
@@ -66,22 +71,24 @@ pub(crate) fn values_from<R: CountedRead>(
 {
     let too_long = EngineFault::Upit(Problem::InputTooLong);
     let text = read_whole(alloc, from, MOST_BYTES).map_err(|fault| unread(fault, too_long))?;
-    match read_upit(alloc, text.as_slice(), n) {
+    match read_upit(rt, alloc, text.as_slice(), n, threads) {
         Ok(values) => Ok(values),
         Err(fault) => Err(EngineFault::from(fault)),
     }
 }
 
 /// The predecessors of each of n blocks, without the pairs and the index by predecessor, which a solver needs and a
-/// check doesn't.
+/// check doesn't. So many threads read the text at once, or as many as [`read_predecessors`] chooses.
 ///
 /// # Errors
 /// `Prec` for more than 2^32 bytes, or for a fault of [`read_predecessors`]. `Memory` where memory is refused, `Device`
 /// where a read fails.
-pub fn predecessors_from<R: CountedRead>(
+pub fn predecessors_from<T: Threads + Sync, R: CountedRead>(
+    rt: &T,
     alloc: Global,
     from: &mut R,
     n: u32,
+    threads: Option<u32>,
 ) -> Result<Predecessors, EngineFault>
     requires blocks { n ≤ MOST_BLOCKS }
     requires room { R.failed from.old < 2 ^ 64 - 1 }
@@ -95,8 +102,35 @@ pub fn predecessors_from<R: CountedRead>(
 {
     let too_long = EngineFault::Prec(Problem::InputTooLong);
     let text = read_whole(alloc, from, MOST_BYTES).map_err(|fault| unread(fault, too_long))?;
-    match read_predecessors(alloc, text, n) {
+    match read_predecessors(rt, alloc, text, n, threads) {
         Ok(predecessors) => Ok(predecessors),
         Err(fault) => Err(EngineFault::from(fault)),
+    }
+}
+
+/// Who rests on whom among n blocks, by a text that lists it.
+///
+/// # Errors
+/// Those of [`predecessors_from`].
+pub fn held_from<T: Threads + Sync, R: CountedRead>(
+    rt: &T,
+    alloc: Global,
+    from: &mut R,
+    n: u32,
+    threads: Option<u32>,
+) -> Result<HeldPairs, EngineFault>
+    requires blocks { n ≤ MOST_BLOCKS }
+    requires room { R.failed from.old < 2 ^ 64 - 1 }
+    ensures read { IfSome (R.remaining from.old) (λ text. MatchResult result
+        (ReadsPrec n text)
+        (PrecReadFails n text)) }
+    ensures size { IfOk result (λ rests. rests.blocks ≡ n) }
+    ensures device { IsErrOf result EngineFault.Device
+        ↔ (R.failed from.new ≡ R.failed from.old + 1) }
+    ensures kept { ¬ IsErrOf result EngineFault.Device → R.failed from.new ≡ R.failed from.old }
+{
+    match predecessors_from(rt, alloc, from, n, threads) {
+        Ok(list) => Ok(HeldPairs::of_list(list)),
+        Err(fault) => Err(fault),
     }
 }

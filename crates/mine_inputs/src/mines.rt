@@ -1,24 +1,19 @@
-//! Reads the inputs of a mine, of whichever kind: gives what a check needs of it, or what a solver needs.
+//! The inputs of a mine, of whichever kind; and the mine of those whose precedence is a text of its own.
 
-ghost use Rattle.std.specs.Prelude.{◌≡◌, ◌+◌, ◌-◌, ◌^◌, ◌<◌, ℕ, List, IfOk, IfSome, MatchResult, IsErrOf};
-ghost use Rattle.certificate_file.specs.ReadBack.{IsPrice};
+ghost use Rattle.std.specs.Prelude.{◌≡◌, ◌+◌, ◌-◌, ◌^◌, ◌<◌, ℕ, List, IfSome, MatchResult, IsErrOf};
 ghost use Rattle.mine_inputs.specs.FaultStands.{MineFails};
-ghost use Rattle.mine_inputs.specs.MineInputs.{ForTexts, ForWorths, CanCount, WorthsCanCount, NoneFailed, NoWorthsFailed, OneFailed, is_priced, worths_failures};
-ghost use Rattle.mine_inputs.specs.Mines.{priced_texts, price_wanted};
-ghost use Rattle.mine_inputs.specs.ReadMines.{AreRead, AreWorthsOf, IsMineRead};
+ghost use Rattle.mine_inputs.specs.MineInputs.{ForWorths, WorthsCanCount, NoWorthsFailed, is_priced, worths_failures};
+ghost use Rattle.mine_inputs.specs.Mines.{priced_texts};
+ghost use Rattle.mine_inputs.specs.ReadMines.{AreWorthsOf, IsMineRead};
 
-use crate::checked_mine::MineToCheck;
 use crate::columns_of_prices::price_columns;
-use crate::engine_fault::{EngineFault, Problem};
-use crate::inputs::{predecessors_from, unread};
+use crate::inputs::{held_from, unread};
+use crate::mine_kinds::HeldMine;
 use crate::priced_inputs::{priced_settings_from, prices_from};
-use crate::sloped_mines::sloped_mine;
-use crate::valued_mines::valued_mine;
 use crate::worths::Worths;
-use certificate_file::Price;
-use fixed_worth::{CountedRead, MOST_BYTES, read_whole};
-use prec_file::Rests;
-use shells::Factor;
+use counted_devices::{CountedRead, read_whole};
+use engine_faults::{EngineFault, Problem};
+use fixed_worth::MOST_BYTES;
 use std::alloc::Global;
 use std::thread::Threads;
 use upit_file::read_values;
@@ -49,6 +44,9 @@ pub enum MineInputs<D> {
         worths: WorthInputs<D>,
         /// What rests on what: MineLib's `.prec`.
         prec: D,
+        /// How many threads read that text at once, and that of values; as [`prec_file::read_predecessors`] and
+        /// [`upit_file::read_values`] choose where it isn't said. The answers are the same.
+        threads: Option<u32>,
     },
     /// The blocks have prices, and rest on one another by slopes.
     Sloped {
@@ -66,6 +64,9 @@ pub enum MineInputs<D> {
         blocks: D,
         /// MineLib's `.upit`.
         upit: D,
+        /// How many threads read that text at once; as [`upit_file::read_upit`] chooses where it isn't said. The
+        /// answers are the same.
+        threads: Option<u32>,
     },
 }
 
@@ -98,11 +99,13 @@ fn worths_by_prices<D: CountedRead>(
 }
 
 // The mine whose precedence is a text of its own.
-pub(crate) fn listed_mine<D: CountedRead>(
+pub(crate) fn mine_of_prec<R: Threads + Sync, D: CountedRead>(
+    rt: &R,
     alloc: Global,
     worths: &mut WorthInputs<D>,
     prec: &mut D,
-) -> Result<MineToCheck, EngineFault>
+    threads: Option<u32>,
+) -> Result<HeldMine, EngineFault>
     requires worths_room { WorthsCanCount worths.old D.failed }
     requires prec_room { D.failed prec.old < 2 ^ 64 - 1 }
     ensures read { (factor : ℕ)
@@ -123,89 +126,13 @@ pub(crate) fn listed_mine<D: CountedRead>(
             let text = read_whole(alloc, upit, MOST_BYTES).map_err(|fault| unread(
                 fault, too_long,
             ))?;
-            Worths::Values(read_values(alloc, text.as_slice(), None)?)
+            Worths::Values(read_values(rt, alloc, text.as_slice(), None, threads)?)
         }
         WorthInputs::Prices { settings, blocks } => worths_by_prices(alloc, settings, blocks)?,
     };
-    let predecessors = predecessors_from(alloc, prec, valued.len())?;
-    Ok(MineToCheck {
+    let predecessors = held_from(rt, alloc, prec, valued.len(), threads)?;
+    Ok(HeldMine {
         worths: valued,
         predecessors,
-    })
-}
-
-/// The mine that its texts denote, as a check needs it. Which factor the prices count at is asked later.
-///
-/// # Errors
-/// Of values: `Upit`. Of prices, in this order: `Settings` for a fault of this text or a missing key; `Blocks`;
-/// `Prices` for a negative revenue. Of values beside slopes, in this order: `Settings`; `Blocks`; `Upit`, also where
-/// there are more or fewer values than blocks. Then `Prec`; or, where slopes say what rests on what, `Slope` with the
-/// first fault of `predecessors_by_region`. `Memory` where memory is refused, `Device` where a read fails.
-pub fn mine_to_check<D: CountedRead>(
-    alloc: Global,
-    inputs: &mut MineInputs<D>,
-) -> Result<MineToCheck, EngineFault>
-    requires { CanCount inputs.old D.failed }
-    ensures read { (factor : ℕ)
-        → ForTexts inputs.old D.remaining factor (λ texts. MatchResult result
-        (λ mine. IsMineRead texts factor mine.worths mine.predecessors)
-        (MineFails texts)) }
-    ensures device { IsErrOf result EngineFault.Device
-        → OneFailed inputs.old inputs.new D.failed 0 0 }
-    ensures kept { ¬ IsErrOf result EngineFault.Device → NoneFailed inputs.old inputs.new D.failed }
-{
-    match inputs {
-        MineInputs::Listed { worths, prec } => listed_mine(alloc, worths, prec),
-        MineInputs::Sloped { settings, blocks } => sloped_mine(alloc, settings, blocks),
-        MineInputs::Valued {
-            settings,
-            blocks,
-            upit,
-        } => valued_mine(alloc, settings, blocks, upit),
-    }
-}
-
-/// What solvers need of a mine.
-#[derive(Drop)]
-pub struct MineToSolve {
-    /// What each block is worth, in billionths.
-    pub nanos: Vec<i128>,
-    /// What rests on what.
-    pub rests: Rests,
-    /// The price that its certificates name.
-    pub price: Price,
-}
-
-/// The mine that its texts denote, at a factor where its blocks have prices.
-///
-/// # Errors
-/// Those of [`mine_to_check`].
-pub fn mine_to_solve<R: Threads + Sync, D: CountedRead>(
-    rt: &R,
-    alloc: Global,
-    inputs: &mut MineInputs<D>,
-    factor: Factor,
-) -> Result<MineToSolve, EngineFault>
-    requires { CanCount inputs.old D.failed }
-    ensures read { ForTexts inputs.old D.remaining factor (λ texts. MatchResult result
-        (λ mine. AreRead texts mine.nanos.items mine.rests
-        × (mine.price ≡ price_wanted texts))
-        (MineFails texts)) }
-    ensures price { IfOk result (λ mine. IsPrice mine.price) }
-    ensures device { IsErrOf result EngineFault.Device
-        → OneFailed inputs.old inputs.new D.failed 0 0 }
-    ensures kept { ¬ IsErrOf result EngineFault.Device → NoneFailed inputs.old inputs.new D.failed }
-{
-    let MineToCheck {
-        worths,
-        predecessors,
-    } = mine_to_check(alloc, inputs)?;
-    let rests = predecessors.into_rests(alloc)?;
-    let nanos = worths.nanos_at(rt, alloc, factor)?;
-    let price = worths.price_at(factor);
-    Ok(MineToSolve {
-        nanos,
-        rests,
-        price,
     })
 }

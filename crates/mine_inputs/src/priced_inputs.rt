@@ -1,7 +1,7 @@
 //! Reads settings and the columns of blocks that they name: gives each block's revenues and charges, or the first
 //! fault of an input.
 
-ghost use Rattle.std.specs.Prelude.{◌≡◌, ◌+◌, ◌-◌, ◌*◌, ◌^◌, ◌<◌, ◌≤◌, ◌↔◌, true, false, [], ◌∷◌, ◌++◌, length, None, IfOk, IfSome, OnOk, MatchResult, IsErrOf};
+ghost use Rattle.std.specs.Prelude.{◌≡◌, ◌+◌, ◌-◌, ◌*◌, ◌^◌, ◌<◌, ◌≤◌, ◌↔◌, [], ◌++◌, length, None, IfOk, IfSome, OnOk, MatchResult, IsErrOf};
 ghost use Rattle.settings_file.specs.Settings.{first_said};
 ghost use Rattle.mine_inputs.specs.Limits.{IsWithinLimit};
 ghost use Rattle.mine_inputs.specs.PricedTexts.{slope_keys, first_unused, way_list, column_list, columns_beside, values_of, ways_from, first_columns};
@@ -9,10 +9,11 @@ ghost use Rattle.mine_inputs.specs.BlockTexts.{ReadsBlocks, BlocksReadFails};
 ghost use Rattle.mine_inputs.specs.Inputs.{ReadsSettingsText, SettingsReadFails, ReadsPrices, PricesReadFail, ModelPricesFail};
 
 use crate::columns_of_prices::{PriceColumns, are_few};
-use crate::engine_fault::{EngineFault, Problem};
 use crate::inputs::{blocks_from, unread};
 use blocks_file::BlockModel;
-use fixed_worth::{CountedRead, MOST_BYTES, Micros, read_whole};
+use counted_devices::{CountedRead, read_whole};
+use engine_faults::{EngineFault, Problem};
+use fixed_worth::{MOST_BYTES, Micros};
 use settings_file::{Key, MOST_WAYS, Settings, SettingsFault, WayColumns, read_settings};
 use shells::{Prices, Way};
 use std::alloc::{AllocError, Global};

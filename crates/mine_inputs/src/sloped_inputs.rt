@@ -4,12 +4,12 @@ ghost use Rattle.std.specs.Prelude.{◌≡◌, ◌+◌, ◌-◌, ◌^◌, ◌<�
 ghost use Rattle.mine_inputs.specs.SlopedTexts.{columns_for, up_by};
 ghost use Rattle.mine_inputs.specs.BlockTexts.{ReadsBlocks, BlocksReadFails};
 
-use crate::engine_fault::EngineFault;
 use crate::inputs::blocks_from;
 use blocks_file::BlockModel;
-use fixed_worth::CountedRead;
+use counted_devices::CountedRead;
+use engine_faults::EngineFault;
 use settings_file::UpSign;
-use slope::Up;
+use slope_offsets::Up;
 use std::alloc::Global;
 
 /// The blocks of a text with their places, and with the column of their regions where there is one.

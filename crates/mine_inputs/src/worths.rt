@@ -1,9 +1,10 @@
 //! Gives what each block of a mine is worth in billionths, at a factor or at the price that a certificate names,
 //! whether its texts give values or prices.
 
-ghost use Rattle.std.specs.Prelude.{◌≡◌, ◌≢◌, ◌≤◌, ℕ, IfOk, MatchOption};
+ghost use Rattle.std.specs.Prelude.{◌≡◌, ◌≢◌, ◌<◌, ◌≤◌, ℕ, IfOk, MatchOption};
 ghost use Rattle.fixed_worth.specs.declared.limits.TheConstants.{MOST_FACTOR};
 ghost use Rattle.certificate_file.specs.ReadBack.{IsPrice};
+ghost use Rattle.mine_inputs.specs.Ways.{way_valued, ways_valued, worth_valued};
 ghost use Rattle.mine_inputs.specs.Worths.{blocks_valued, nanos_at, price_at, factor_at};
 
 use certificate_file::Price;
@@ -57,6 +58,43 @@ impl Worths {
                 Price::Factor(_) | Price::Mill(_) => None,
             },
             Worths::Prices(prices) => prices.factor_of(price),
+        }
+    }
+
+    /// How many ways there are to treat a block, beside waste: none where blocks have values, or costs alone.
+    pub fn way_count(&self) -> u32
+        ensures is { result ≡ ways_valued self.now }
+        ensures few { result ≤ 8 }
+    {
+        match self {
+            Worths::Values(_) => 0,
+            Worths::Prices(prices) => prices.way_count(),
+        }
+    }
+
+    /// What block b is worth by a way, in billionths: ways are counted from 0, and their number is that of waste. Where
+    /// there are no ways, what it is worth.
+    pub fn worth_by(&self, b: u32, way: u32, factor: Factor) -> i128
+        requires { b < blocks_valued self.now }
+        ensures { result ≡ worth_valued self.now factor way b }
+    {
+        match self {
+            Worths::Values(upit) => 1000 * i128::from(upit.value(b).get()),
+            Worths::Prices(prices) => prices.worth_by(b, way, factor),
+        }
+    }
+
+    /// The way by which block b is worth most, the first such; that of waste where none is worth more than zero.
+    pub fn way_of(&self, b: u32, factor: Factor) -> u32
+        requires { b < blocks_valued self.now }
+        ensures { result ≡ way_valued self.now factor b }
+    {
+        match self {
+            Worths::Values(_) => 0,
+            Worths::Prices(prices) => match prices.way_of(b, factor) {
+                Some(way) => way,
+                None => prices.way_count(),
+            },
         }
     }
 

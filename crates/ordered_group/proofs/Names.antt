@@ -19,7 +19,8 @@ group_spelled word g h = grind (arith, common_steps, bytes_eq-Decides)
 
 -- no two kinds have one word
 pub group_name-same : (a b : Group) → group_name a ≡ group_name b → a ≡ b
-group_name-same a b h = ap (λ (o : Option Group). unwrap_or o b) (let e : Some a ≡ Some b = sym (group_read a) ∙ ap group_of h ∙ group_read b in e)
+group_name-same a b h = ap (λ (o : Option Group). unwrap_or o b) (let e : Some a ≡ Some b = sym (group_read a)
+    ∙ ap group_of h ∙ group_read b in e)
 
 -- a word has no line feed and no space, and at most six letters
 pub group_name-one_word : (g : Group) → list_all (λ b. not (eqb b 10) && not (eqb b 32)) (group_name g) ≡ true

@@ -1,5 +1,6 @@
 -- Quotients that are rounded down, of a number and of what is added to it.
-use Rattle.std.proofs.Common.{◌≡◌, ℕ, suc, ◌+◌, ◌-◌, ◌*◌, ◌/◌, ◌%◌, ◌^◌, ◌<◌, ap, ap₂, ◌∙◌, arith, ℤ, pos, negsuc, ◌+ℤ◌, ◌*ℤ◌, FitsSigned, to_z, of_z, int_div, Option, Some, None}
+use Rattle.std.proofs.Common.{◌≡◌, ℕ, suc, ◌+◌, ◌-◌, ◌*◌, ◌/◌, ◌%◌, ◌^◌, ◌<◌, ap, ap₂, ◌∙◌, arith, ℤ, pos, negsuc, ◌+ℤ◌}
+use Rattle.std.proofs.Common.{◌*ℤ◌, FitsSigned, to_z, of_z, int_div, Option, Some, None}
 use Rattle.std.specs.Int.{w128, int_div_euclid, int_rem_euclid}
 use Rattle.std.specs.Option.{SomeIff}
 use Rattle.std.proofs.lemmas.Int.{ints, to_z-of_z}
@@ -20,15 +21,25 @@ by_quotient (pos a) m h = omega (arith, ints, div-add-mod' a m)
 by_quotient (negsuc a) m h = omega (arith, ints, div-add-mod' a m, mod_below a m h)
 
 -- what is added goes to the remainder first
-pub quotient_with : (z : ℤ) (m k r : ℕ) → 0 < m → int_rem_euclid z (pos m) ≡ pos r → int_div_euclid (z +ℤ pos k) (pos m) ≡ int_div_euclid z (pos m) +ℤ pos ((r + k) / m)
+pub quotient_with : (z : ℤ) (m k r : ℕ) → 0 < m → int_rem_euclid z (pos m) ≡ pos r
+    → int_div_euclid (z +ℤ pos k) (pos m) ≡ int_div_euclid z (pos m) +ℤ pos ((r + k) / m)
 quotient_with z m k r h e =
     quotient_is (z +ℤ pos k) (int_div_euclid z (pos m) +ℤ pos ((r + k) / m)) m ((r + k) % m) (mod_below (r + k) m h)
-    (omega (arith, ints, by_quotient z m h, e, sum_times (int_div_euclid z (pos m)) (pos ((r + k) / m)) m, div-add-mod' (r + k) m))
+    (omega (
+      arith,
+      ints,
+      by_quotient z m h,
+      e,
+      sum_times (int_div_euclid z (pos m)) (pos ((r + k) / m)) m,
+      div-add-mod' (r + k) m,
+    ))
 
 -- a quotient of what isn't negative, as the machine divides
-pub machine_quotient : (x y : ℤ) (a d : ℕ) → x ≡ pos a → y ≡ pos d → 0 < d → a < 2 ^ 127 → to_z w128 (of_z w128 (int_div x y)) ≡ pos (a / d)
+pub machine_quotient : (x y : ℤ) (a d : ℕ) → x ≡ pos a → y ≡ pos d → 0 < d → a < 2 ^ 127
+    → to_z w128 (of_z w128 (int_div x y)) ≡ pos (a / d)
 machine_quotient x y a d e f h l =
-    ap₂ (λ (u v : ℤ). to_z w128 (of_z w128 (int_div u v))) e f ∙ to_z-of_z w128 (pos (a / d)) (omega (arith, ints, l, div-add-mod' a d))
+    ap₂ (λ (u v : ℤ). to_z w128 (of_z w128 (int_div u v))) e f
+    ∙ to_z-of_z w128 (pos (a / d)) (omega (arith, ints, l, div-add-mod' a d))
 
 -- what a sum that is tested answers
 pub told_exactly : (v sum : ℤ) (o : Option ℤ) → sum ≡ v → SomeIff o (FitsSigned w128 sum) sum → TellsWorth v o

@@ -1,5 +1,6 @@
 -- The amount of one block, and amounts by their numbers.
-use Rattle.std.specs.Prelude.{◌≡◌, ℕ, ◌+◌, Bool, true, false, ℤ, pos, negsuc, ◌+ℤ◌, ◌-ℤ◌, ◌*ℤ◌, Option, MatchOption, FitsSigned, ◌⊎◌}
+use Rattle.std.specs.Prelude.{◌≡◌, ℕ, ◌+◌, Bool, true, false, ℤ, pos, negsuc, ◌+ℤ◌, ◌-ℤ◌, ◌*ℤ◌, Option, MatchOption}
+use Rattle.std.specs.Prelude.{FitsSigned, ◌⊎◌}
 use Rattle.std.specs.Int.{w128, int_div_euclid}
 use Rattle.ordered_group.specs.Amount.{Amount}
 
@@ -21,7 +22,8 @@ scaled_worth a n count = int_div_euclid (a.w +ℤ pos count) (pos (n + 1))
 
 -- The amount with these two numbers is answered, and nothing where amounts have no count and one is given.
 abbrev pub TakesParts : {X : Type 0} → (X → Amount) → Bool → ℤ → ℤ → Option X → Type 0
-TakesParts parts counts w c o = MatchOption o ((counts ≡ false) × ¬ (c ≡ pos 0)) (λ x. (parts x ≡ record { w = w; c = c }) × ((counts ≡ true) ⊎ (c ≡ pos 0)))
+TakesParts parts counts w c o = MatchOption o ((counts ≡ false) × ¬ (c ≡ pos 0))
+    (λ x. (parts x ≡ record { w = w; c = c }) × ((counts ≡ true) ⊎ (c ≡ pos 0)))
 
 -- the worth is answered where it fits, and otherwise nothing
 abbrev pub TellsWorth : ℤ → Option ℤ → Type 0

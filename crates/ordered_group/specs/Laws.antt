@@ -17,7 +17,8 @@ pub record IsOrderedGroup : Type 0 where
 
 -- The worth that is told of the sum of a set's blocks is the sum of their worths.
 abbrev pub SumsTellWorth : (ℤ → ℕ → Amount) → (Amount → ℕ → ℕ → ℤ) → Type 0
-SumsTellWorth block worth = (v : ℕ → ℤ) (e : ℕ → Bool) (n : ℕ) → worth (group_sum block v e n) n (count_in e n) ≡ worth_in v e n
+SumsTellWorth block worth = (v : ℕ → ℤ) (e : ℕ → Bool) (n : ℕ) → worth (group_sum block v e n) n (count_in e n)
+    ≡ worth_in v e n
 
 -- The worth that is told of the amount of one block is the block's.
 abbrev pub BlocksTellWorth : (ℤ → ℕ → Amount) → (Amount → ℕ → ℕ → ℤ) → Type 0
@@ -25,4 +26,5 @@ BlocksTellWorth block worth = (v : ℤ) (n : ℕ) → 0 < n → worth (block v n
 
 -- One set's sum is below another's exactly where the set is before the other.
 abbrev pub SumsOrderSets : (ℤ → ℕ → Amount) → Type 0
-SumsOrderSets block = (v : ℕ → ℤ) (e c : ℕ → Bool) (n : ℕ) → Below (group_sum block v e n) (group_sum block v c n) ↔ IsBefore v n e c
+SumsOrderSets block = (v : ℕ → ℤ) (e c : ℕ → Bool) (n : ℕ)
+    → Below (group_sum block v e n) (group_sum block v c n) ↔ IsBefore v n e c

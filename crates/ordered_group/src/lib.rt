@@ -11,6 +11,27 @@
 //! `SizeGroup` that sums are ordered as the sets are, by worth and then by the fewer blocks. The
 //! functions of `laws` state these for every group. Lemmas on sums of amounts, for the crates
 //! above, are in `proofs`.
+//!
+//! An example: three blocks worth 6, 5 and -10 billionths, each of the size -1, sum to 1 and -3, which as the sum of
+//! three blocks of three is a worth of 1; and of two pits worth 5 that with two blocks is the greater. Tried in
+//! `lower_tests/src/groups.rt`; both in one number, in `lower_tests/src/scaled_amounts.rt`.
+//!
+//! ```rust
+//! fn pair(nanos: i128, size: i128) -> WorthSize {
+//!     WorthSize { nanos, size }
+//! }
+//!
+//! equal(
+//!     &rt,
+//!     try_sum(&[pair(6, -1), pair(5, -1), pair(-10, -1)]),
+//!     Some(pair(1, -3)),
+//! );
+//!
+//! let (more_blocks, fewer_blocks, more_worth) = (pair(5, -3), pair(5, -2), pair(6, -9));
+//! assert!(rt; more_blocks < fewer_blocks && fewer_blocks < more_worth);
+//!
+//! equal(&rt, pair(1, -3).nanos_of_set(3, 3), Some(1));
+//! ```
 #![tactic(auto)]
 
 mod amounts;

@@ -11,12 +11,16 @@ pub mod Finding
 pub mod Rows
 pub mod RowSteps
 pub mod RowChecks
+pub mod RowsAdded
 pub mod Shapes
 pub mod History
 pub mod RowReading
 pub mod Marks
 pub mod Progress
 pub mod RisingProgress
+pub mod PartLines
+pub mod PartProgress
+pub mod LineDigits
 pub mod WrittenPieces
 pub mod WrittenLines
 pub mod OneListing

@@ -1,5 +1,6 @@
 -- Pairs in order are determined by what they contain.
-use Rattle.fixed_worth.proofs.Common.{◌≡◌, ℕ, suc, ◌⊎◌, inl, inr, List, [], ◌∷◌, refl, sym, ap, subst, ◌∙◌, arith, Contains, get_or_default, common_steps}
+use Rattle.fixed_worth.proofs.Common.{◌≡◌, ℕ, suc, ◌⊎◌, inl, inr, List, [], ◌∷◌, refl, sym, ap, subst, ◌∙◌, arith}
+use Rattle.fixed_worth.proofs.Common.{Contains, get_or_default, common_steps}
 use Rattle.prec_file.specs.Rests.{Before, IsRising, ArePairsOf}
 
 no_way_back : (x y : ℕ × ℕ) → Before x y → Before y x → ⊥
@@ -22,16 +23,20 @@ tail_holds p ps x c = (suc c.0, omega (arith, c.1), c.2)
 first_or_later : (p : ℕ × ℕ) (ps : List (ℕ × ℕ)) (x : ℕ × ℕ) → Contains (p ∷ ps) x → (p ≡ x) ⊎ Contains ps x
 first_or_later p ps x h = grind (arith, common_steps)
 
-same_first : (p q : ℕ × ℕ) (ps qs : List (ℕ × ℕ)) → IsRising (p ∷ ps) → IsRising (q ∷ qs) → Contains (q ∷ qs) p → Contains (p ∷ ps) q → p ≡ q
+same_first : (p q : ℕ × ℕ) (ps qs : List (ℕ × ℕ)) → IsRising (p ∷ ps) → IsRising (q ∷ qs) → Contains (q ∷ qs) p
+    → Contains (p ∷ ps) q → p ≡ q
 same_first p q ps qs r s f g = elim (first_or_later q qs p f) [
   | inl e ↦ sym e
-  | inr a ↦ elim (first_or_later p ps q g) [ inl e ↦ e | inr b ↦ absurd (no_way_back p q (head_before p ps q r b) (head_before q qs p s a)) ]
+  | inr a ↦ elim (first_or_later p ps q g)
+      [ inl e ↦ e | inr b ↦ absurd (no_way_back p q (head_before p ps q r b) (head_before q qs p s a)) ]
 ]
 
-among_later : (p q : ℕ × ℕ) (ps qs : List (ℕ × ℕ)) (x : ℕ × ℕ) → p ≡ q → IsRising (p ∷ ps) → Contains ps x → Contains (q ∷ qs) x → Contains qs x
+among_later : (p q : ℕ × ℕ) (ps qs : List (ℕ × ℕ)) (x : ℕ × ℕ) → p ≡ q → IsRising (p ∷ ps) → Contains ps x
+    → Contains (q ∷ qs) x → Contains qs x
 among_later p q ps qs x e r c f = grind (arith, common_steps, first_or_later, head_before, no_way_back)
 
-one_order : (ps qs : List (ℕ × ℕ)) → IsRising ps → IsRising qs → ((x : ℕ × ℕ) → Contains ps x → Contains qs x) → ((x : ℕ × ℕ) → Contains qs x → Contains ps x) → ps ≡ qs
+one_order : (ps qs : List (ℕ × ℕ)) → IsRising ps → IsRising qs → ((x : ℕ × ℕ) → Contains ps x → Contains qs x)
+    → ((x : ℕ × ℕ) → Contains qs x → Contains ps x) → ps ≡ qs
 one_order [] [] r s f g = refl
 one_order [] (q ∷ qs) r s f g = let c = g q (first q qs) in absurd (omega (arith, c.1))
 one_order (p ∷ ps) [] r s f g = let c = f p (first p ps) in absurd (omega (arith, c.1))

@@ -1,5 +1,6 @@
 -- Telling one pair from all others, and whether it is listed, as a test says it and as a member of the list.
-use Rattle.fixed_worth.proofs.Common.{◌≡◌, ℕ, Bool, true, ◌&&◌, ◌==◌, ap, arith, IsTrue, List, refl, and_from, eq-eqb, eqb-true, and_parts, common_steps, Contains, Any-from_list_any, list_any-from_Any}
+use Rattle.fixed_worth.proofs.Common.{◌≡◌, ℕ, Bool, true, ◌&&◌, ◌==◌, ap, arith, IsTrue, List, refl, and_from, eq-eqb}
+use Rattle.fixed_worth.proofs.Common.{eqb-true, and_parts, common_steps, Contains, Any-from_list_any, list_any-from_Any}
 use Rattle.prec_file.specs.Rests.{has_pair}
 
 abbrev pub is_pair : ℕ → ℕ → ℕ × ℕ → Bool
@@ -12,7 +13,8 @@ pub pair_told : (b p : ℕ) (q : ℕ × ℕ) → is_pair b p q ≡ true → q �
 pair_told b p q h = grind (arith, common_steps)
 
 pub rests_of_pair : (pairs : List (ℕ × ℕ)) (b p : ℕ) → Contains pairs (b, p) → IsTrue (has_pair pairs b p)
-rests_of_pair pairs b p c = list_any-from_Any (λ (q : ℕ × ℕ). (q.0 == b) && (q.1 == p)) pairs (c.0, (b, p), c.1, c.2, and_from (b == b) (p == p) (eq-eqb b b refl) (eq-eqb p p refl))
+rests_of_pair pairs b p c = list_any-from_Any (λ (q : ℕ × ℕ). (q.0 == b) && (q.1 == p)) pairs
+    (c.0, (b, p), c.1, c.2, and_from (b == b) (p == p) (eq-eqb b b refl) (eq-eqb p p refl))
 
 pub pair_of_rests : (pairs : List (ℕ × ℕ)) (b p : ℕ) → IsTrue (has_pair pairs b p) → Contains pairs (b, p)
 pair_of_rests pairs b p held = grind (arith, common_steps, Any-from_list_any, and_parts, eqb-true)

@@ -7,5 +7,6 @@ pub mod Written
 pub mod Faults
 -- for this crate alone: the indexes as they are built
 pub mod Indexes
+pub mod Parts
 -- the names of all of them
 pub mod Prelude

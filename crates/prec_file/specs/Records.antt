@@ -1,5 +1,6 @@
 -- What a precedence file says, over its list of lines.
-use Rattle.std.specs.Prelude.{ℕ, ◌+◌, ◌==◌, ◌||◌, Bool, not, cond, List, [], ◌∷◌, ◌++◌, length, map, nat_lt, nat_le, Option, Some, None}
+use Rattle.std.specs.Prelude.{ℕ, ◌+◌, ◌==◌, ◌||◌, Bool, not, cond, List, [], ◌∷◌, ◌++◌, length, map, nat_lt, nat_le}
+use Rattle.std.specs.Prelude.{Option, Some, None}
 use Rattle.std.specs.Option.{option_or}
 use Rattle.std.specs.List.{list_all, list_any, flat_map}
 use Rattle.fixed_worth.specs.declared.limits.TheConstants.{LINE_BYTES}
@@ -7,7 +8,8 @@ use Rattle.prec_file.specs.declared.limits.TheConstants.{MOST_PAIRS}
 use Rattle.fixed_worth.specs.Text.{fields_of}
 pub use Rattle.fixed_worth.specs.Record.{Line, lines_in, reads, number_of, is_skipped, block_of, has}
 use Rattle.prec_file.specs.declared.prec_fault.PrecFault.{PrecFault}
-use Rattle.prec_file.specs.declared.prec_fault.PrecFault.TheVariants.{Text, Number, UnknownBlock, Repeated, WrongCount, TooMany, NoMemory}
+use Rattle.prec_file.specs.declared.prec_fault.PrecFault.TheVariants.{Text, Number, UnknownBlock, Repeated, WrongCount}
+use Rattle.prec_file.specs.declared.prec_fault.PrecFault.TheVariants.{TooMany, NoMemory}
 
 -- How many predecessors a record says that it lists: its second field.
 abbrev pub predecessor_count_of : List (List ℕ) → ℕ
@@ -38,11 +40,13 @@ history_fault had before line fields =
 
 -- The fault of a line's fields: a skipped line has none.
 abbrev pub record_fault : ℕ → (ℕ → Bool) → ℕ → ℕ → List (List ℕ) → Option PrecFault
-record_fault n had before line fields = cond (is_skipped fields) None (option_or (shape_fault n line fields) (history_fault had before line fields))
+record_fault n had before line fields = cond (is_skipped fields) None
+    (option_or (shape_fault n line fields) (history_fault had before line fields))
 
 -- The fault of a line: one of more than 65,536 bytes is faulty even where it would be skipped.
 abbrev pub line_fault : ℕ → (ℕ → Bool) → ℕ → Line → Option PrecFault
-line_fault n had before l = cond (nat_lt LINE_BYTES (length l.text)) (Some (Text l.number)) (record_fault n had before l.number (fields_of l.text))
+line_fault n had before l = cond (nat_lt LINE_BYTES (length l.text)) (Some (Text l.number))
+    (record_fault n had before l.number (fields_of l.text))
 
 -- The block whose record a line is, if it is one.
 abbrev pub blocks_of_fields : List (List ℕ) → List ℕ
@@ -61,13 +65,13 @@ abbrev pub pairs_of : List Line → List (ℕ × ℕ)
 pairs_of lines = flat_map (λ l. pairs_in (fields_of l.text)) lines
 
 -- The fault of a line after other lines.
-abbrev pub fault_behind : ℕ → List Line → Line → Option PrecFault
-fault_behind n before l = line_fault n (has (blocks_of before)) (length (pairs_of before)) l
+abbrev pub fault_after : ℕ → List Line → Line → Option PrecFault
+fault_after n before l = line_fault n (has (blocks_of before)) (length (pairs_of before)) l
 
 -- The fault of the first faulty line, if any, after these lines.
 abbrev pub first_fault : ℕ → List Line → List Line → Option PrecFault
 first_fault n before [] = None
-first_fault n before (l ∷ lines) = option_or (fault_behind n before l) (first_fault n (before ++ l ∷ []) lines)
+first_fault n before (l ∷ lines) = option_or (fault_after n before l) (first_fault n (before ++ l ∷ []) lines)
 
 -- The fault of a text for n blocks, if any.
 abbrev pub fault_of : ℕ → List ℕ → Option PrecFault

@@ -3,7 +3,7 @@ use Rattle.std.specs.Prelude.{◌≡◌, ℕ, zero, suc, ◌+◌, ◌<◌, ◌�
 use Rattle.std.specs.List.{flat_map}
 use Rattle.std.specs.Fmt.{decimal}
 use Rattle.std.specs.Io.KnownBytes.{Keeps}
-use Rattle.fixed_worth.specs.Device.{ReceivedPrefix}
+use Rattle.counted_devices.specs.Device.{ReceivedPrefix}
 use Rattle.prec_file.specs.Rests.{RestsView, IsFirstNot, above_of, ArePairsOf}
 use Rattle.prec_file.specs.declared.write_fault.PrecWriteFault.{PrecWriteFault}
 use Rattle.prec_file.specs.declared.write_fault.PrecWriteFault.TheVariants.{TooWide, Device}
@@ -37,8 +37,10 @@ AreNarrow v = (b : ℕ) → b < v.blocks → IsNarrowAt v b
 -- The fault stands, given what the writer had received before and after, and how many of its writes had failed:
 -- a block is too wide, the first one, and nothing was written; or a write failed, and a prefix of the file was written.
 abbrev pub WriteFaultStands : RestsView → Option (List ℕ) → Option (List ℕ) → ℕ → ℕ → PrecWriteFault → Type 0
-WriteFaultStands v old new failed after (TooWide b) = IsFirstNot (IsNarrowAt v) v.blocks b × Keeps old new × (after ≡ failed)
-WriteFaultStands v old new failed after Device = AreNarrow v × ReceivedPrefix old new (prec_text v) × (after ≡ failed + 1)
+WriteFaultStands v old new failed after (TooWide b) = IsFirstNot (IsNarrowAt v) v.blocks b × Keeps old new
+    × (after ≡ failed)
+WriteFaultStands v old new failed after Device = AreNarrow v × ReceivedPrefix old new (prec_text v)
+    × (after ≡ failed + 1)
 
 -- The text has no fault for the value's blocks, and its pairs are the value's and no others.
 pub record ReadsBack (v : RestsView) (text : List ℕ) : Type 0 where

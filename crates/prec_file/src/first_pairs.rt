@@ -1,4 +1,4 @@
-//! The number of each block's first pair.
+//! Makes the index by block: for each block the number of its first pair, where the pairs are in order.
 
 ghost use Rattle.std.specs.Prelude.{◌≡◌, ℕ, ◌<◌, ◌≤◌, All, IfOk, length, slice_index, vec_capacity};
 ghost use Rattle.prec_file.specs.Rests.{IsKnown, IsRising, from_at};
@@ -35,9 +35,9 @@ pub(crate) fn firsts_of(alloc: Global, n: u32, pairs: &[(u32, u32)]) -> Result<V
     let size = n as usize + 1;
     let mut firsts: Vec<u32> = Vec::with_capacity(alloc, size)?;
     for (k, (b, _)) in pairs.iter().enumerate() {
-        let behind = *b as usize + 1;
-        if firsts.len() < behind {
-            fill(&mut firsts, behind, k as u32);
+        let beyond = *b as usize + 1;
+        if firsts.len() < beyond {
+            fill(&mut firsts, beyond, k as u32);
         }
     }
     fill(&mut firsts, size, pairs.len() as u32);

@@ -1,4 +1,4 @@
-//! Pairs before they are put in order.
+//! Pairs as they are listed, before they are put in order, so that what they were read from can be given back first.
 
 ghost use Rattle.std.specs.Prelude.{◌≡◌, ◌≤◌, All, length, IfOk};
 ghost use Rattle.prec_file.specs.Rests.{ArePairsOf, IsKnown};
@@ -45,7 +45,7 @@ impl ListedPairs {
         ListedPairs { blocks, pairs }
     }
 
-    /// The pairs, each once and in order, but those of a block with itself.
+    /// The pairs, each once and in order, except those of a block with itself.
     ///
     /// # Errors
     /// Where memory is refused.

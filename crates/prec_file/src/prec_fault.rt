@@ -1,4 +1,4 @@
-//! What is wrong with a precedence file.
+//! Why a precedence file is refused, with the number of the line, and how each fault is printed.
 
 ghost use Rattle.std.specs.Prelude.{Some};
 ghost use Rattle.prec_file.specs.Faults.{prec_fault_text};

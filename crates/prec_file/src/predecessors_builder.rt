@@ -1,6 +1,7 @@
 //! Who rests on whom, listed block by block.
 
-ghost use Rattle.std.specs.Prelude.{◌≡◌, ℕ, ◌+◌, ◌++◌, ◌<◌, ◌≤◌, List, [], All, IfOk, IsTrue, MatchResult, OnOk, OnErr, length, map};
+ghost use Rattle.std.specs.Prelude.{◌≡◌, ℕ, ◌+◌, ◌++◌, ◌<◌, ◌≤◌, List, [], All, IfOk, IsTrue, MatchResult, OnOk, OnErr, length, map, vec_capacity};
+ghost use Rattle.prec_file.specs.Parts.{AreRowsAdded};
 ghost use Rattle.prec_file.specs.Rests.{IsOfBlock, IsRowAdded, IsRising, AreApart};
 
 use crate::Predecessors;
@@ -31,7 +32,11 @@ impl Model for PredecessorsBuilder {
 
     ghost Value = { RowsView };
 
-    ghost view = { λ r. record { blocks = r.blocks; next = r.next; pairs = pairs_by r.firsts.items r.predecessors.items } };
+    ghost view = { λ r. record {
+      blocks = r.blocks;
+      next = r.next;
+      pairs = pairs_by r.firsts.items r.predecessors.items;
+    } };
 
     ghost invariant = { λ r. AreRows r.blocks r.next
         (pairs_by r.firsts.items r.predecessors.items) r.firsts.items r.predecessors.items };
@@ -47,6 +52,18 @@ fn append(list: &mut Vec<u32>, pairs: &[(u32, u32)]) -> Result<(), AllocError>
         list.push_reserved(*predecessor);
     }
     Ok(())
+}
+
+// Puts numbers after others, each so much higher.
+fn put_raised(list: &mut Vec<u32>, numbers: &[u32], by: u32)
+    requires space { length list.old.items + length numbers.now ≤ vec_capacity list.old }
+    requires few { by ≤ MOST_PAIRS }
+    requires small { All (λ k. k ≤ MOST_PAIRS) numbers.now }
+    ensures { list.new.items ≡ list.old.items ++ map (λ k. by + k) numbers.now }
+{
+    for number in numbers {
+        list.push_reserved(by + *number);
+    }
 }
 
 // Whether predecessors of a block rise, and the block isn't among them.
@@ -101,7 +118,7 @@ impl PredecessorsBuilder {
 
     // Lists the blocks before one, as far as they aren't listed yet, without pairs.
     pub(crate) fn skip_to(&mut self, block: u32) -> Result<(), AllocError>
-        requires behind { self.old.next ≤ block }
+        requires beyond { self.old.next ≤ block }
         requires within { block ≤ self.old.blocks }
         ensures { OnOk result
             (self.new ≡ record { blocks = self.old.blocks; next = block; pairs = self.old.pairs }) }
@@ -130,13 +147,13 @@ impl PredecessorsBuilder {
         }
         self.firsts.reserve(1)?;
         self.predecessors.extend_from_slice(row)?;
-        let behind = self.predecessors.len() as u32;
-        self.firsts.push_reserved(behind);
+        let beyond = self.predecessors.len() as u32;
+        self.firsts.push_reserved(beyond);
         self.next = block + 1;
         Ok(())
     }
 
-    /// Lists the next block with its pairs, and gives these back: each once and in order, but that with itself.
+    /// Lists the next block with its pairs, and gives these back: each once and in order, except that with itself.
     ///
     /// # Errors
     /// Where memory is refused; then nothing is listed.
@@ -162,6 +179,33 @@ impl PredecessorsBuilder {
         ensures { result ≡ record { blocks = self.blocks; pairs = self.pairs } }
     {
         Predecessors::of_lists(self.blocks, self.firsts, self.predecessors)
+    }
+
+    // Lists the blocks of another one after its own, and says whether it did. It didn't where a block of the other's
+    // pairs is listed here, or its blocks are fewer, where both have too many pairs, and where memory is refused.
+    pub(crate) fn append(&mut self, other: PredecessorsBuilder) -> bool
+        ensures { IsTrue result → AreRowsAdded self.old other self.new }
+    {
+        if other.blocks != self.blocks || other.next < self.next {
+            return false;
+        }
+        if other.firsts[self.next as usize] != 0 {
+            return false;
+        }
+        let before = self.predecessors.len();
+        if before + other.predecessors.len() > MOST_PAIRS {
+            return false;
+        }
+        let (_, begun) = other.firsts.split_at(self.next as usize + 1);
+        let Ok(()) = self.firsts.reserve(begun.len()) else {
+            return false;
+        };
+        let Ok(()) = self.predecessors.extend_from_slice(&other.predecessors) else {
+            return false;
+        };
+        put_raised(&mut self.firsts, begun, before as u32);
+        self.next = other.next;
+        true
     }
 
     // The pairs, where the blocks that aren't listed have none.

@@ -1,4 +1,5 @@
-//! Reading a precedence file.
+//! Reads a precedence file: gives the pairs that its records list, as a list, with both indexes or by block alone, or
+//! the first fault of the text.
 
 ghost use Rattle.std.specs.Prelude.{◌≡◌, ◌≤◌, ◌++◌, false, length, slice_index_or, vec_capacity, All, MatchResult};
 ghost use Rattle.fixed_worth.specs.Text.{fields_of};
@@ -8,11 +9,13 @@ ghost use Rattle.prec_file.specs.Indexes.{marks_after, TellsFault};
 
 use crate::limits::MOST_PAIRS;
 use crate::pair_order::add_pairs;
+use crate::part_reading::read_at_once;
 use crate::records::{counted, read_record};
 use crate::rising::read_rising;
 use crate::{ListedPairs, PrecFault, Predecessors, Rests};
 use fixed_worth::{LINE_BYTES, Lines, MOST_BLOCKS};
 use std::alloc::Global;
+use std::thread::Threads;
 
 // Reads a line, adds its pairs, and marks its block as seen. The row has the predecessors in the meantime.
 fn read_line(
@@ -125,15 +128,29 @@ pub fn read_prec(alloc: Global, text: &[u8], n: u32) -> Result<Rests, PrecFault>
 /// Where the blocks of the records rise, as in most files, the pairs are never held but as the result holds them.
 /// Otherwise the text is read again.
 ///
+/// So many threads read a part of the text each; where it isn't said how many, as many as there are processors, at most
+/// eight, and none a part of less than a million bytes. Where a thread can't be made, its part is read by another one.
+/// Where the parts don't make a whole without fault, the text is read again from its beginning, so that the answer is
+/// the same whatever the number of threads, except that memory may be refused with more of them.
+///
 /// # Errors
 /// Those of [`read_prec`].
-pub fn read_predecessors(alloc: Global, text: Vec<u8>, n: u32) -> Result<Predecessors, PrecFault>
+pub fn read_predecessors<R: Threads + Sync>(
+    rt: &R,
+    alloc: Global,
+    text: Vec<u8>,
+    n: u32,
+    threads: Option<u32>,
+) -> Result<Predecessors, PrecFault>
     requires { n ≤ MOST_BLOCKS }
     ensures { MatchResult result
         (λ r. (fault_of n text.items ≡ None) × (r.blocks ≡ n)
         × ArePairsOf (pairs_of_text text.items) r.pairs)
         (λ e. UnlessMemory e (fault_of n text.items ≡ Some e)) }
 {
+    if let Some(predecessors) = read_at_once(rt, alloc, text.as_slice(), n, threads) {
+        return Ok(predecessors);
+    }
     if let Some(predecessors) = read_rising(alloc, text.as_slice(), n)? {
         return Ok(predecessors);
     }

@@ -1,4 +1,4 @@
-//! Who rests on whom, by block and by predecessor.
+//! Holds who rests on whom, each pair once and in order, and answers by block and by predecessor alike.
 
 ghost use Rattle.std.specs.Prelude.{◌≡◌, ◌<◌, ◌≤◌, All, IfOk, MatchResult, MatchOption, length, map, slice_index_or};
 ghost use Rattle.std.specs.List.{Contains};

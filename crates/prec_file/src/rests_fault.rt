@@ -1,4 +1,5 @@
-//! What is wrong with a list of pairs.
+//! Why a list of pairs is refused: a block that isn't known, too many pairs, or no memory; and how each fault is
+//! printed.
 
 ghost use Rattle.std.specs.Prelude.{Some};
 ghost use Rattle.prec_file.specs.Faults.{rests_fault_text};

@@ -14,16 +14,16 @@ use std::alloc::Global;
 
 // What is read so far.
 #[derive(Drop)]
-struct Rising {
-    rows: PredecessorsBuilder,
+pub(crate) struct Rising {
+    pub rows: PredecessorsBuilder,
     // the predecessors of the record that was read last
-    row: Vec<u32>,
+    pub row: Vec<u32>,
     // how many predecessors are listed, repeats counted
-    listed: u64,
+    pub listed: u64,
 }
 
 // Reads a line and lists its row, or answers false where its block isn't above those of the lines before.
-fn read_rising_line(
+pub(crate) fn read_rising_line(
     alloc: Global,
     to: &mut Rising,
     text: &[u8],

@@ -1,14 +1,14 @@
-//! Writing a precedence file.
+//! Writes pairs as a precedence file that is read back as the same pairs: a line for each block, without taking memory.
 
-ghost use Rattle.std.specs.Prelude.{◌≡◌, ◌+◌, ◌-◌, ◌^◌, ◌<◌, [], ◌∷◌, ◌++◌, OnOk, OnErr, IfErr, MatchOption};
-ghost use Rattle.std.specs.Fmt.{decimal};
+ghost use Rattle.std.specs.Prelude.{◌≡◌, ◌+◌, ◌-◌, ◌^◌, ◌<◌, ◌++◌, OnOk, OnErr, IfErr, MatchOption};
 ghost use Rattle.std.specs.Io.KnownBytes.{Appends};
-ghost use Rattle.fixed_worth.specs.Device.{ReceivedPrefix, SentOrHeld};
+ghost use Rattle.counted_devices.specs.Device.{ReceivedPrefix, SentOrHeld};
 ghost use Rattle.prec_file.specs.Rests.{IsFirstNot};
-ghost use Rattle.prec_file.specs.Written.{prec_text, prec_line, spaced_numbers, IsNarrowAt, AreNarrow, WriteFaultStands};
+ghost use Rattle.prec_file.specs.Written.{prec_text, prec_line, IsNarrowAt, AreNarrow, WriteFaultStands};
 
+use crate::line_text::LineText;
 use crate::{PrecWriteFault, Predecessors, Rests};
-use fixed_worth::{CountedWrite, Page, WriteFault, WrittenNumber};
+use counted_devices::{CountedWrite, Page, WriteFault};
 
 // The most predecessors of a block: with eight digits each, its line stays below the reader's limit of 65,536 bytes.
 const WIDEST: usize = 7_000;
@@ -27,96 +27,16 @@ fn first_wide(predecessors: &Predecessors) -> Option<u32>
     None
 }
 
-// Puts a space and a number, whose digits are kept for the next one.
-fn put_spaced<W: CountedWrite>(
-    page: &mut Page,
-    out: &mut W,
-    digits: &mut WrittenNumber,
-    number: u64,
-) -> Result<(), WriteFault>
-    requires { W.failed out.old < 2 ^ 64 - 1 }
-    ensures held { OnOk result (SentOrHeld (W.contents out.old) (W.contents out.new) page.new
-        (page.old ++ (32 ∷ decimal number))) }
-    ensures kept { OnOk result (W.failed out.new ≡ W.failed out.old) }
-    ensures prefix { OnErr result (ReceivedPrefix (W.contents out.old) (W.contents out.new)
-        (page.old ++ (32 ∷ decimal number))) }
-    ensures counted { OnErr result (W.failed out.new ≡ W.failed out.old + 1) }
-{
-    page.put(out, b" ")?;
-    digits.set(number as u128);
-    page.put(out, digits.as_bytes())
-}
-
-// Puts numbers, a space before each.
-fn put_all_spaced<W: CountedWrite>(
-    page: &mut Page,
-    out: &mut W,
-    digits: &mut WrittenNumber,
-    numbers: &[u32],
-) -> Result<(), WriteFault>
-    requires { W.failed out.old < 2 ^ 64 - 1 }
-    ensures held { OnOk result (SentOrHeld (W.contents out.old) (W.contents out.new) page.new
-        (page.old ++ spaced_numbers numbers.now)) }
-    ensures kept { OnOk result (W.failed out.new ≡ W.failed out.old) }
-    ensures prefix { OnErr result (ReceivedPrefix (W.contents out.old) (W.contents out.new)
-        (page.old ++ spaced_numbers numbers.now)) }
-    ensures counted { OnErr result (W.failed out.new ≡ W.failed out.old + 1) }
-{
-    for number in numbers {
-        put_spaced(page, out, digits, *number as u64)?;
-    }
-    Ok(())
-}
-
-// Puts a block and how many predecessors it has.
-fn put_head<W: CountedWrite>(
-    page: &mut Page,
-    out: &mut W,
-    digits: &mut WrittenNumber,
-    block: u32,
-    count: u64,
-) -> Result<(), WriteFault>
-    requires { W.failed out.old < 2 ^ 64 - 1 }
-    ensures held { OnOk result (SentOrHeld (W.contents out.old) (W.contents out.new) page.new
-        (page.old ++ (decimal block ++ (32 ∷ decimal count)))) }
-    ensures kept { OnOk result (W.failed out.new ≡ W.failed out.old) }
-    ensures prefix { OnErr result (ReceivedPrefix (W.contents out.old) (W.contents out.new)
-        (page.old ++ (decimal block ++ (32 ∷ decimal count)))) }
-    ensures counted { OnErr result (W.failed out.new ≡ W.failed out.old + 1) }
-{
-    digits.set(block as u128);
-    page.put(out, digits.as_bytes())?;
-    put_spaced(page, out, digits, count)
-}
-
-// Puts the predecessors of a block, and ends its line.
-fn put_rest<W: CountedWrite>(
-    page: &mut Page,
-    out: &mut W,
-    digits: &mut WrittenNumber,
-    above: &[u32],
-) -> Result<(), WriteFault>
-    requires { W.failed out.old < 2 ^ 64 - 1 }
-    ensures held { OnOk result (SentOrHeld (W.contents out.old) (W.contents out.new) page.new
-        (page.old ++ (spaced_numbers above.now ++ (10 ∷ [])))) }
-    ensures kept { OnOk result (W.failed out.new ≡ W.failed out.old) }
-    ensures prefix { OnErr result (ReceivedPrefix (W.contents out.old) (W.contents out.new)
-        (page.old ++ (spaced_numbers above.now ++ (10 ∷ [])))) }
-    ensures counted { OnErr result (W.failed out.new ≡ W.failed out.old + 1) }
-{
-    put_all_spaced(page, out, digits, above)?;
-    page.put(out, b"\n")
-}
-
 // Puts the line of a block.
 fn put_line<W: CountedWrite>(
     page: &mut Page,
     out: &mut W,
-    digits: &mut WrittenNumber,
+    line: &mut LineText,
     predecessors: &Predecessors,
     block: u32,
 ) -> Result<(), WriteFault>
     requires known { block < predecessors.now.blocks }
+    requires narrow { IsNarrowAt predecessors.now block }
     requires room { W.failed out.old < 2 ^ 64 - 1 }
     ensures held { OnOk result (SentOrHeld (W.contents out.old) (W.contents out.new) page.new
         (page.old ++ prec_line predecessors.now.pairs block)) }
@@ -125,14 +45,14 @@ fn put_line<W: CountedWrite>(
         (page.old ++ prec_line predecessors.now.pairs block)) }
     ensures counted { OnErr result (W.failed out.new ≡ W.failed out.old + 1) }
 {
-    let above = predecessors.above(block);
-    put_head(page, out, digits, block, above.len() as u64)?;
-    put_rest(page, out, digits, above)
+    line.set(block, predecessors.above(block));
+    page.put(out, line.as_bytes())
 }
 
 // Writes the lines of all blocks.
 fn write_lines<W: CountedWrite>(predecessors: &Predecessors, out: &mut W) -> Result<(), WriteFault>
-    requires { W.failed out.old < 2 ^ 64 - 1 }
+    requires narrow { AreNarrow predecessors.now }
+    requires room { W.failed out.old < 2 ^ 64 - 1 }
     ensures sent { OnOk result
         (Appends (W.contents out.old) (W.contents out.new) (prec_text predecessors.now)) }
     ensures kept { OnOk result (W.failed out.new ≡ W.failed out.old) }
@@ -141,9 +61,9 @@ fn write_lines<W: CountedWrite>(predecessors: &Predecessors, out: &mut W) -> Res
     ensures counted { OnErr result (W.failed out.new ≡ W.failed out.old + 1) }
 {
     let mut page = Page::new();
-    let mut digits = WrittenNumber::of(0);
+    let mut line = LineText::new();
     for block in 0..predecessors.len() {
-        put_line(&mut page, out, &mut digits, predecessors, block)?;
+        put_line(&mut page, out, &mut line, predecessors, block)?;
     }
     page.finish(out)
 }

@@ -1,13 +1,11 @@
-//! The forest that a search leaves, as a list.
+//! Lists the forest that a search leaves, tree by tree and each block before those that hang under it, and the pairs of
+//! its arcs.
 
-ghost use Rattle.std.specs.Prelude.{◌≡◌, ◌<◌, ◌≤◌, All, length, IfOk, IfSome};
+ghost use Rattle.std.specs.Prelude.{◌≡◌, ◌<◌, All, length, IfOk, IfSome};
 ghost use Rattle.prec_file.specs.Rests.{IsKnown};
 
-use crate::amounts::Amount;
-use crate::budget::Budget;
-use crate::fault::PseudoflowFault;
 use crate::forest::{Direction, Forest};
-use crate::links::{Link, NO_LINK};
+use net_part::{Amount, Budget, Link, NO_LINK, PseudoflowFault};
 use std::alloc::Global;
 
 /// A block of a finished forest.
@@ -35,8 +33,8 @@ fn list_block<A: Amount>(
     requires places { length places.old ≡ forest.now }
     ensures { length places.new ≡ length places.old }
 {
-    let behind = branches.len().saturating_sub(begin);
-    let place = u32::try_from(behind).map_err(|_| PseudoflowFault::Broken)?;
+    let after = branches.len().saturating_sub(begin);
+    let place = u32::try_from(after).map_err(|_| PseudoflowFault::Broken)?;
     let parent = match forest.parent(b) {
         Some(parent) => places[parent as usize],
         None => NO_LINK,

@@ -2,10 +2,8 @@
 
 ghost use Rattle.std.specs.Prelude.{◌≡◌, ◌<◌, IfSome};
 
-use crate::amounts::Amount;
-use crate::fault::PseudoflowFault;
 use crate::forest::Forest;
-use crate::links::{Link, NO_LINK};
+use net_part::{Amount, Link, NO_LINK, PseudoflowFault};
 use std::alloc::{AllocError, Global};
 
 // The first and the last root of a bucket.

@@ -2,13 +2,9 @@
 
 ghost use Rattle.std.specs.Prelude.{◌≡◌, ◌+◌, ◌<◌, ◌≤◌, IfOk, IfSome};
 
-use crate::amounts::Amount;
-use crate::budget::Budget;
-use crate::fault::PseudoflowFault;
 use crate::forest::Forest;
-use crate::labels::Labels;
-use crate::leading::{Look, WaysUp};
 use crate::search::Search;
+use net_part::{Amount, Budget, Labels, Look, PseudoflowFault, WaysUp};
 
 /// An arc over which a strong tree is merged: a block of the tree, and one that it rests on whose label is one lower
 /// than that of the tree's root.

@@ -2,9 +2,7 @@
 
 ghost use Rattle.std.specs.Prelude.{◌≡◌, ◌<◌, ◌≤◌, length, IfSome, IfOk};
 
-use crate::amounts::Amount;
-use crate::leading::WaysUp;
-use crate::links::{Link, NO_LINK};
+use net_part::{Amount, Link, NO_LINK, WaysUp};
 use std::alloc::{AllocError, Global};
 use std::marker::Model;
 

@@ -2,14 +2,10 @@
 
 ghost use Rattle.std.specs.Prelude.{◌≡◌, ◌<◌, ◌≤◌, IfOk, IfSome};
 
-use crate::amounts::Amount;
 use crate::buckets::Buckets;
-use crate::budget::Budget;
-use crate::fault::PseudoflowFault;
 use crate::forest::Forest;
-use crate::labels::Labels;
-use crate::leading::WaysUp;
 use crate::search::Search;
+use net_part::{Amount, Budget, Labels, PseudoflowFault, WaysUp};
 
 // Lifts the blocks of a tree out of the search.
 fn lift<A: Amount>(

@@ -2,11 +2,9 @@
 
 ghost use Rattle.std.specs.Prelude.{◌≡◌, ◌<◌, ◌≤◌};
 
-use crate::amounts::Amount;
-use crate::budget::Budget;
-use crate::fault::PseudoflowFault;
 use crate::finding::MergerArc;
 use crate::forest::{Direction, Forest};
+use net_part::{Amount, Budget, PseudoflowFault};
 
 impl<A: Amount> Forest<A> {
     /// Hangs the strong tree of a merger arc under its weak block. The tree is turned over: each arc from the strong

@@ -1,11 +1,9 @@
-//! The walk over a tree.
+//! Walks over a tree block after block, each before those that hang under it, or past all of these.
 
 ghost use Rattle.std.specs.Prelude.{◌<◌, ◌≤◌, IfOk, IfSome};
 
-use crate::amounts::Amount;
-use crate::budget::Budget;
-use crate::fault::PseudoflowFault;
 use crate::forest::Forest;
+use net_part::{Amount, Budget, PseudoflowFault};
 
 impl<A: Amount> Forest<A> {
     /// The block after b in its tree, in preorder: each block stands before those that hang under it.

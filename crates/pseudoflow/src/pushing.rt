@@ -2,12 +2,9 @@
 
 ghost use Rattle.std.specs.Prelude.{◌≡◌, ◌<◌, ◌≤◌};
 
-use crate::amounts::Amount;
-use crate::budget::Budget;
-use crate::fault::PseudoflowFault;
 use crate::forest::{Direction, Forest};
-use crate::leading::WaysUp;
 use crate::search::Search;
+use net_part::{Amount, Budget, PseudoflowFault, WaysUp};
 
 // Pushes as much of a block's excess to its parent as their arc's residual capacity takes.
 fn push_to_parent<A: Amount>(

@@ -4,9 +4,9 @@ ghost use Rattle.std.specs.Prelude.{◌≡◌, ◌<◌, length, IfOk};
 ghost use Rattle.closure_net.specs.Network.{FlowFits};
 
 use crate::branches::Branch;
-use crate::fault::PseudoflowFault;
 use crate::forest::Direction;
 use closure_net::{Carried, Flow, Net};
+use net_part::PseudoflowFault;
 use ordered_group::{OrderedGroup, smaller};
 use std::alloc::Global;
 use std::marker::Model;
@@ -229,7 +229,7 @@ fn ends_tree(branches: &[Branch], place: usize) -> bool
     }
 }
 
-/// The flow of a forest in which no tree is strong but those from which no pair leads to another.
+/// The flow of a forest in which no tree is strong except those from which no pair leads to another.
 ///
 /// All arcs of the source and the sink are saturated at first, and what an arc of the forest carries up is what the
 /// blocks under it are worth. What a strong root has left goes back to the source by the arcs that brought it, and what

@@ -1,15 +1,12 @@
-//! A search for a greatest flow.
+//! Runs a search: merges or lifts the strong trees, those of the highest label first, until there is none or its turns
+//! are used up.
 
 ghost use Rattle.std.specs.Prelude.{◌≡◌, ◌<◌, ◌≤◌, length, IfOk};
 
-use crate::amounts::Amount;
 use crate::buckets::Buckets;
-use crate::budget::Budget;
-use crate::fault::PseudoflowFault;
 use crate::forest::Forest;
-use crate::labels::Labels;
-use crate::leading::WaysUp;
 use crate::reporting::Progress;
+use net_part::{Amount, Budget, Labels, PseudoflowFault, WaysUp};
 use std::alloc::Global;
 use std::marker::Model;
 

@@ -3,20 +3,15 @@
 ghost use Rattle.std.specs.Prelude.{◌≡◌, length, IfOk};
 ghost use Rattle.closure_net.specs.Network.{FlowFits};
 
-use crate::amounts::{Amount, amounts_of};
-use crate::arcs::Arcs;
 use crate::branches::{Branch, branches_of};
-use crate::budget::Budget;
-use crate::fault::PseudoflowFault;
-use crate::labels::Labels;
-use crate::leading::WaysUp;
-use crate::links::Link;
-use crate::part::Part;
 use crate::recovery::flow_of_forest;
 use crate::reporting::Progress;
 use crate::search::Search;
-use crate::units::{Scale, small_worths};
 use closure_net::{Flow, Net};
+use net_part::{
+    Amount, Arcs, Budget, Labels, Link, Part, PseudoflowFault, Scale, WaysUp, amounts_of,
+    small_worths,
+};
 use ordered_group::OrderedGroup;
 use std::alloc::Global;
 
@@ -33,12 +28,12 @@ pub struct Grown {
 fn searched<A: Amount, W: WaysUp, P: Progress>(
     alloc: Global,
     part: Part<W>,
-    worths: &[A],
+    worths: Vec<A>,
     blocks: u32,
     budget: &mut Budget,
     progress: &P,
 ) -> Result<Grown, PseudoflowFault>
-    requires { length worths.now ≡ part }
+    requires { length worths.items ≡ part }
 {
     let Part {
         blocks: of_net,
@@ -46,7 +41,8 @@ fn searched<A: Amount, W: WaysUp, P: Progress>(
         labels,
         lifted,
     } = part;
-    let mut search = Search::open(alloc, above, labels, worths)?;
+    let mut search = Search::open(alloc, above, labels, worths.as_slice())?;
+    drop(worths);
     search.run(lifted, blocks, budget, progress)?;
     let branches = branches_of(alloc, &search.forest, &of_net, budget)?;
     let pit = lifted_blocks(alloc, &search.labels, &of_net, search.above.len(), blocks)?;
@@ -76,29 +72,32 @@ fn lifted_blocks(
 }
 
 /// Grows the forest of a part of a mine of so many blocks, whose blocks are worth so many billionths each, and finds
-/// the pit in it.
+/// the pit in it. The search counts in units, of 64 bits where these do; so what is common to all worths is divided
+/// out.
 ///
 /// Nothing is promised of either: a checker judges what is made of them. [`flow_of_forest`](crate::flow_of_forest)
 /// makes the flow.
 ///
 /// # Errors
-/// Those of [`solve`].
+/// Those of [`solve`]; `TooLarge` also where 128 bits are too few for units.
 pub fn grow<W: WaysUp, P: Progress>(
     alloc: Global,
     part: Part<W>,
-    worths: &[i64],
+    worths: Vec<i128>,
     blocks: u32,
     budget: &mut Budget,
     progress: &P,
 ) -> Result<Grown, PseudoflowFault>
-    requires { length worths.now ≡ part }
+    requires { length worths.items ≡ part }
 {
-    let scale = Scale::of(worths, part.above.len());
-    if let Some(units) = scale.small_units(alloc, worths)? {
-        return searched(alloc, part, &units, blocks, budget, progress);
+    let scale = Scale::of(worths.as_slice(), part.above.len());
+    if let Some(units) = scale.small_units(alloc, worths.as_slice())? {
+        drop(worths);
+        return searched(alloc, part, units, blocks, budget, progress);
     }
-    let units = scale.large_units(alloc, worths)?;
-    searched(alloc, part, &units, blocks, budget, progress)
+    let units = scale.large_units(alloc, worths.as_slice())?;
+    drop(worths);
+    searched(alloc, part, units, blocks, budget, progress)
 }
 
 // The forest that a search of a part of the net leaves: over units, of 64 bits where these do, or else over the net's
@@ -113,9 +112,9 @@ fn forest_of<G: OrderedGroup, P: Progress>(
     let n = net.len();
     let Some(worths) = small_worths(alloc, net, &part.blocks)? else {
         let amounts = amounts_of(alloc, net, &part.blocks)?;
-        return searched(alloc, part, &amounts, n, budget, progress);
+        return searched(alloc, part, amounts, n, budget, progress);
     };
-    grow(alloc, part, &worths, n, budget, progress)
+    grow(alloc, part, worths, n, budget, progress)
 }
 
 /// A flow of the net, by highest-label pseudoflow (Hochbaum 2008).

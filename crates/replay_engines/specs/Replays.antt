@@ -1,16 +1,17 @@
 -- How the engine of `replay` ends, by the bytes of their inputs and of their output.
 use Rattle.std.specs.Prelude.{◌≡◌, ℕ, ◌⊎◌, List, Option, Result, Ok, Err}
 use Rattle.std.specs.Io.KnownBytes.{Appends, Keeps}
-use Rattle.fixed_worth.specs.Device.{ReceivedPrefix}
+use Rattle.counted_devices.specs.Device.{ReceivedPrefix}
 use Rattle.ordered_group.specs.declared.groups.Group.{Group}
 use Rattle.closure_net.specs.Network.{NetView}
 use Rattle.machine_law.specs.declared.events.Event.{Event}
 use Rattle.trace_file.specs.Faults.{events_of}
-use Rattle.engines.specs.declared.judgement.Verdict.{Verdict}
-use Rattle.mine_inputs.specs.declared.engine_fault.EngineFault.{EngineFault}
-use Rattle.mine_inputs.specs.declared.engine_fault.EngineFault.TheVariants as engine
+use Rattle.check_engines.specs.declared.judgement.Verdict.{Verdict}
+use Rattle.engine_faults.specs.declared.engine_fault.EngineFault.{EngineFault}
+use Rattle.engine_faults.specs.declared.engine_fault.EngineFault.TheVariants as engine
 use Rattle.mine_inputs.specs.Prelude.{MineFails, MineTexts, DenoteMine}
-use Rattle.engines.specs.Prelude.{ModelFails, IsNetBy}
+use Rattle.check_engines.specs.Prelude.{ModelFails}
+use Rattle.solve_engines.specs.Prelude.{IsNetBy}
 use Rattle.replay_engines.specs.declared.outcome.Outcome.{Outcome}
 use Rattle.replay_engines.specs.TraceTexts.{IsTrace, TraceFails}
 use Rattle.replay_engines.specs.Outcomes.{IsOutcome, outcome_text, outcome_verdict}
@@ -42,13 +43,17 @@ ReplayFails texts name trace fault = MineFails texts fault
 -- what is in the writer at a fault: what was there before, unless a device failed; then perhaps a prefix of an answer
 -- too
 abbrev pub WritesReplayPrefix : MineTexts → Group → List ℕ → Option (List ℕ) → Option (List ℕ) → Type 0
-WritesReplayPrefix texts name trace old new = Keeps old new ⊎ ((outcome : Outcome) × IsReplay texts name trace outcome × ReceivedPrefix old new (outcome_text outcome))
+WritesReplayPrefix texts name trace old new = Keeps old new
+    ⊎ ((outcome : Outcome) × IsReplay texts name trace outcome × ReceivedPrefix old new (outcome_text outcome))
 
 abbrev pub ReplayAtFault : MineTexts → Group → List ℕ → Option (List ℕ) → Option (List ℕ) → EngineFault → Type 0
 ReplayAtFault texts name trace old new engine.Device = WritesReplayPrefix texts name trace old new
 ReplayAtFault texts name trace old new _ = Keeps old new
 
 -- the answer, and what was written with it
-abbrev pub Replays : MineTexts → Group → List ℕ → Option (List ℕ) → Option (List ℕ) → Result Verdict EngineFault → Type 0
-Replays texts name trace old new (Ok verdict) = (outcome : Outcome) × IsReplay texts name trace outcome × (verdict ≡ outcome_verdict outcome) × Appends old new (outcome_text outcome)
-Replays texts name trace old new (Err fault) = ReplayFails texts name trace fault × ReplayAtFault texts name trace old new fault
+abbrev pub Replays : MineTexts → Group → List ℕ → Option (List ℕ) → Option (List ℕ) → Result Verdict EngineFault
+    → Type 0
+Replays texts name trace old new (Ok verdict) = (outcome : Outcome) × IsReplay texts name trace outcome
+    × (verdict ≡ outcome_verdict outcome) × Appends old new (outcome_text outcome)
+Replays texts name trace old new (Err fault) = ReplayFails texts name trace fault
+    × ReplayAtFault texts name trace old new fault

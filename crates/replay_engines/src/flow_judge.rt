@@ -3,14 +3,14 @@
 ghost use Rattle.std.specs.Prelude.{IfOk};
 ghost use Rattle.machine_law.specs.Quiet.{IsSolved};
 ghost use Rattle.mine_inputs.specs.Mines.{MineTexts};
-ghost use Rattle.engines.specs.Readings.{IsGroupNamed};
-ghost use Rattle.engines.specs.Solving.{IsNetBy};
+ghost use Rattle.check_engines.specs.Readings.{IsGroupNamed};
+ghost use Rattle.solve_engines.specs.Solving.{IsNetBy};
 ghost use Rattle.replay_engines.specs.Outcomes.{IsFlowJudged};
 
+use check_engines::Judgement;
 use closure_net::{Flow, Net};
-use engines::Judgement;
-use engines::certification::{Uncertified, certified};
 use ordered_group::OrderedGroup;
+use solve_engines::certification::{Uncertified, certified};
 use std::alloc::{AllocError, Global};
 
 /// What a check says of a flow that solves a net, with the pit of the blocks that the source reaches in it.

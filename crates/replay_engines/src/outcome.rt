@@ -4,13 +4,14 @@
 ghost use Rattle.std.specs.Prelude.{◌≡◌, ◌+◌, ◌-◌, ◌^◌, ◌<◌, ◌↔◌, OnOk, IfOk, IfErr, IsErrOf};
 ghost use Rattle.std.specs.Io.KnownBytes.{Appends};
 ghost use Rattle.std.specs.String.{string_bytes};
-ghost use Rattle.engines.specs.Checking.{LineFails};
+ghost use Rattle.check_engines.specs.Checking.{LineFails};
 ghost use Rattle.replay_engines.specs.Outcomes.{outcome_text};
 
 use async_step::StepRefusal;
-use engines::judgement_line::line_of;
-use engines::{EngineFault, Judgement, Verdict};
-use fixed_worth::{CountedWrite, write_text};
+use check_engines::judgement_line::line_of;
+use check_engines::{Judgement, Verdict};
+use counted_devices::{CountedWrite, write_text};
+use engine_faults::EngineFault;
 use std::alloc::{AllocError, Global};
 
 /// What comes of the steps of a trace.

@@ -7,9 +7,10 @@ ghost use Rattle.replay_engines.specs.Replays.{Replays};
 use crate::replay_asked::ReplayAsked;
 use crate::replayed_mine::replay_mine;
 use crate::trace_inputs::events_from;
-use engines::{EngineFault, MineInputs, Verdict};
-use fixed_worth::{CountedRead, CountedWrite};
-use mine_inputs::mine_to_solve;
+use check_engines::Verdict;
+use counted_devices::{CountedRead, CountedWrite};
+use engine_faults::EngineFault;
+use mine_inputs::{MineInputs, mine_to_solve};
 use std::alloc::Global;
 use std::thread::Threads;
 
@@ -28,7 +29,7 @@ use std::thread::Threads;
 /// known.
 ///
 /// # Errors
-/// Those of `mine_inputs::mine_to_check`, then `Trace`, and `Model` where the net's amounts don't fit.
+/// Those of `mine_inputs::mine_to_solve`, then `Trace`, and `Model` where the net's amounts don't fit.
 /// `Memory` where memory is refused, `Device` where a read or a write fails: the writer has then received a prefix of
 /// the answer, and at every other fault nothing.
 ///

@@ -5,8 +5,9 @@ ghost use Rattle.mine_inputs.specs.Limits.{IsWithinLimit};
 ghost use Rattle.replay_engines.specs.TraceTexts.{ReadsTrace, TraceReadFails};
 
 use async_step::Event;
-use engines::{EngineFault, Problem};
-use fixed_worth::{CountedRead, MOST_BYTES, read_whole};
+use counted_devices::{CountedRead, read_whole};
+use engine_faults::{EngineFault, Problem};
+use fixed_worth::MOST_BYTES;
 use mine_inputs::unread;
 use std::alloc::Global;
 use trace_file::read_trace;

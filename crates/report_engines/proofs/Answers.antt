@@ -1,7 +1,7 @@
 -- From the parts of the engine of reports to its answer, where the readers tell their bytes.
 use Rattle.std.proofs.Common.{ℕ, List, Option, Err, IfSome}
-use Rattle.mine_inputs.specs.declared.engine_fault.EngineFault.{EngineFault}
-use Rattle.engines.specs.declared.effort.Effort.{Effort}
+use Rattle.engine_faults.specs.declared.engine_fault.EngineFault.{EngineFault}
+use Rattle.option_words.specs.declared.effort.Effort.{Effort}
 use Rattle.mine_inputs.specs.Mines.{PrecedenceBy, is_sloped}
 use Rattle.shell_engines.specs.declared.series_outputs.Wanted.{Wanted}
 use Rattle.shell_engines.specs.Shells.{DenoteSeries, NoNetAt}
@@ -9,5 +9,10 @@ use Rattle.shell_engines.proofs.Answering.{texts_unread}
 use Rattle.report_engines.specs.Prelude.{ReportBlocksRead, ReportMineFails, AnswersReport, Reports}
 
 -- the texts were not read
-pub mine_unread : (o q : Option (List ℕ)) (r : Option PrecedenceBy) (v w : Option (List ℕ)) (effort : Effort) (wanted : Wanted) (e : EngineFault) → IfSome o (λ s. IfSome q (λ b. IfSome r (λ p. ReportMineFails s b p e))) → IfSome o (λ s. IfSome q (λ b. IfSome r (λ p. Reports s b p effort wanted v v w w (Err e))))
-mine_unread o q r v w effort wanted e h = texts_unread o q r (λ s b p. AnswersReport s b p effort wanted) ReportMineFails (λ s b p. ReportBlocksRead (is_sloped p) s b × DenoteSeries s b p) (λ s b p k. ReportBlocksRead (is_sloped p) s b × NoNetAt s b p k) (λ s b p k f. absurd (f.1 0)) (λ s b p f. absurd (f.1 0)) (λ s b p f. absurd (f.1 0)) v w e h
+pub mine_unread : (o q : Option (List ℕ)) (r : Option PrecedenceBy) (v w : Option (List ℕ)) (effort : Effort)
+    (wanted : Wanted) (e : EngineFault) → IfSome o (λ s. IfSome q (λ b. IfSome r (λ p. ReportMineFails s b p e)))
+    → IfSome o (λ s. IfSome q (λ b. IfSome r (λ p. Reports s b p effort wanted v v w w (Err e))))
+mine_unread o q r v w effort wanted e h = texts_unread o q r (λ s b p. AnswersReport s b p effort wanted)
+    ReportMineFails (λ s b p. ReportBlocksRead (is_sloped p) s b × DenoteSeries s b p)
+    (λ s b p k. ReportBlocksRead (is_sloped p) s b × NoNetAt s b p k) (λ s b p k f. absurd (f.1 0))
+    (λ s b p f. absurd (f.1 0)) (λ s b p f. absurd (f.1 0)) v w e h

@@ -1,9 +1,11 @@
 -- The bench table says nothing of numbers that are no blocks.
-use Rattle.fixed_worth.proofs.Common.{◌≡◌, ℕ, ◌<◌, ℤ, Bool, true, false, ◌&&◌, Option, List, map, range_with_len, refl, sym, ap, ◌∙◌, subst, arith, Contains, All-weaker}
+use Rattle.fixed_worth.proofs.Common.{◌≡◌, ℕ, ◌<◌, ℤ, Bool, true, false, ◌&&◌, Option, List, map, range_with_len, refl}
+use Rattle.fixed_worth.proofs.Common.{sym, ap, ◌∙◌, subst, arith, Contains, All-weaker}
 use Rattle.ordered_group.specs.Sets.{worth_in, count_in}
 use Rattle.ordered_group.proofs.BlockSets.{count_in-same, worth_in-agrees}
 use Rattle.bench_report.specs.declared.bench_row.BenchRow.{BenchRow}
-use Rattle.bench_report.specs.Prelude.{ReportedBlocks, blocks_at, bench_and_shell, bench_text, goes_way, IsBenchRow, IsBenchTable, way_table_text, way_tonnes}
+use Rattle.bench_report.specs.Prelude.{ReportedBlocks, blocks_at, bench_and_shell, bench_text, goes_way, IsBenchRow}
+use Rattle.bench_report.specs.Prelude.{IsBenchTable, way_table_text, way_tonnes}
 
 -- the second has the blocks of the first, and says the same of each
 pub record AreAlike (m other : ReportedBlocks) : Type 0 where
@@ -25,8 +27,10 @@ module _ (m other : ReportedBlocks) (a : AreAlike m other) where
       record {
         some = h.some;
         number = h.number ∙ count_in-same e c m.blocks same ∙ ap (count_in c) (sym a.blocks);
-        tonnage = h.tonnage ∙ worth_in-agrees m.tonnes other.tonnes e c m.blocks (λ b l. sym (a.tonnes b l)) same ∙ ap (worth_in other.tonnes c) (sym a.blocks);
-        value = h.value ∙ worth_in-agrees m.worth other.worth e c m.blocks (λ b l. sym (a.worth b l)) same ∙ ap (worth_in other.worth c) (sym a.blocks);
+        tonnage = h.tonnage ∙ worth_in-agrees m.tonnes other.tonnes e c m.blocks (λ b l. sym (a.tonnes b l)) same
+            ∙ ap (worth_in other.tonnes c) (sym a.blocks);
+        value = h.value ∙ worth_in-agrees m.worth other.worth e c m.blocks (λ b l. sym (a.worth b l)) same
+            ∙ ap (worth_in other.worth c) (sym a.blocks);
       }
 
   pub table_same : (rows : List BenchRow) → IsBenchTable m rows → IsBenchTable other rows
@@ -35,15 +39,19 @@ module _ (m other : ReportedBlocks) (a : AreAlike m other) where
     rising = h.rising;
     every = λ b k l s.
         let here : b < m.blocks = omega (arith, l, a.blocks) in
-        subst (λ z. Contains (map bench_and_shell rows) (z, k)) (sym (a.height b here)) (h.every b k here (sym (a.shell b here) ∙ s));
+        subst (λ z. Contains (map bench_and_shell rows) (z, k)) (sym (a.height b here))
+        (h.every b k here (sym (a.shell b here) ∙ s));
   }
 
   tonnes_same : (way : ℕ → Option ℕ) (r : BenchRow) (i : ℕ) → way_tonnes m way r i ≡ way_tonnes other way r i
   tonnes_same way r i =
       let e : ℕ → Bool = λ b. blocks_at m r.z r.shell b && goes_way (way b) i in
       let c : ℕ → Bool = λ b. blocks_at other r.z r.shell b && goes_way (way b) i in
-      worth_in-agrees m.tonnes other.tonnes e c m.blocks (λ b l. sym (a.tonnes b l)) (λ b l. ap (λ t. t && goes_way (way b) i) (at_same r.z r.shell b l)) ∙ ap (worth_in other.tonnes c) (sym a.blocks)
+      worth_in-agrees m.tonnes other.tonnes e c m.blocks (λ b l. sym (a.tonnes b l))
+      (λ b l. ap (λ t. t && goes_way (way b) i) (at_same r.z r.shell b l))
+      ∙ ap (worth_in other.tonnes c) (sym a.blocks)
 
-  pub text_same : (ways : Bool) (way : ℕ → Option ℕ) (n : ℕ) (rows : List BenchRow) → bench_text ways m way n rows ≡ bench_text ways other way n rows
+  pub text_same : (ways : Bool) (way : ℕ → Option ℕ) (n : ℕ) (rows : List BenchRow)
+      → bench_text ways m way n rows ≡ bench_text ways other way n rows
   text_same false way n rows = refl
   text_same true way n rows = λ t. way_table_text n (λ r. map (λ i. tonnes_same way r i t) (range_with_len 0 n)) rows

@@ -1,25 +1,30 @@
 -- What only the functions of this crate say to one another.
-use Rattle.std.specs.Prelude.{◌≡◌, ℕ, ◌+◌, ◌*◌, ◌^◌, ◌<◌, ◌≤◌, ℤ, pos, Bool, cond, List, [], ◌∷◌, ◌++◌, length, map, slice_index_or, unsigned_abs, Vec, Option, None, unwrap_or}
+use Rattle.std.specs.Prelude.{◌≡◌, ℕ, ◌+◌, ◌*◌, ◌^◌, ◌<◌, ◌≤◌, ℤ, pos, Bool, cond, List, [], ◌∷◌, ◌++◌, length, map}
+use Rattle.std.specs.Prelude.{slice_index_or, unsigned_abs, Vec, Option, None, unwrap_or}
 use Rattle.std.specs.List.{range_with_len}
 use Rattle.std.specs.declared.alloc.Global.{Global}
-use Rattle.blocks_file.specs.Denotes.{BlocksView, IsSmall, narrowed}
+use Rattle.blocks_file.specs.Denotes.{BlocksView, IsSmallColumn, narrowed}
 use Rattle.prec_file.specs.Rests.{RestsView}
 use Rattle.settings_file.specs.Settings.{SettingsView, settings_of}
 use Rattle.shells.specs.Prelude.{PricesView, PricesFaultStands, SeriesView}
 use Rattle.bench_report.specs.declared.bench_row.BenchRow.{BenchRow}
 use Rattle.bench_report.specs.Prelude.{ReportedBlocks, reported_blocks, IsBenchTable, goes_way, way_tonnes}
-use Rattle.mine_inputs.specs.declared.engine_fault.EngineFault.{EngineFault}
-use Rattle.mine_inputs.specs.declared.engine_fault.EngineFault.TheVariants as engine
+use Rattle.engine_faults.specs.declared.engine_fault.EngineFault.{EngineFault}
+use Rattle.engine_faults.specs.declared.engine_fault.EngineFault.TheVariants as engine
 use Rattle.mine_inputs.specs.declared.columns_of_prices.PriceColumns.{PriceColumns}
 use Rattle.mine_inputs.specs.declared.columns_of_prices.PriceColumns.TheVariants.{Plain, Treated}
-use Rattle.mine_inputs.specs.Prelude.{PrecedenceBy, by_slopes, by_text, is_sloped, columns_for, columns_said, column_after, column_list, place_beside, first_columns, rests_said, unused_by, SettingsFails, ReadsBlocks, BlocksFails, ReadsPrec, PrecReadFails, SlopesRead, ArePairsBy, PairsSaidFail}
+use Rattle.mine_inputs.specs.Prelude.{PrecedenceBy, by_slopes, by_text, is_sloped, columns_for, columns_said}
+use Rattle.mine_inputs.specs.Prelude.{column_after, column_list, place_beside, first_columns, rests_said, unused_by}
+use Rattle.mine_inputs.specs.Prelude.{SettingsFails, ReadsBlocks, BlocksFails, ReadsPrec, PrecReadFails, SlopesRead}
+use Rattle.mine_inputs.specs.Prelude.{ArePairsBy, PairsSaidFail}
 use Rattle.shell_engines.specs.SeriesTexts.{factors_said, report_factor, IsSeriesRead}
 use Rattle.report_engines.specs.declared.report_inputs.ReportColumns.{ReportColumns}
 use Rattle.report_engines.specs.ReportTexts.{report_keys, ReportKeysKnown, report_columns}
 
 -- The prices, the pairs, the factors and the factor of the report that were read, the blocks with their places and
 -- columns, and the columns of the prices are those of the texts.
-pub record IsReportRead (settings blocks : List ℕ) (precedence : PrecedenceBy) (prices : PricesView) (rests : RestsView) (factors : List ℕ) (model : BlocksView) (priced_by : PriceColumns) (factor : ℕ) : Type 0 where
+pub record IsReportRead (settings blocks : List ℕ) (precedence : PrecedenceBy) (prices : PricesView)
+    (rests : RestsView) (factors : List ℕ) (model : BlocksView) (priced_by : PriceColumns) (factor : ℕ) : Type 0 where
   pub series : IsSeriesRead settings blocks precedence prices rests factors factor
   pub keys : ReportKeysKnown (is_sloped precedence) settings
   pub blocks_are : ReadsBlocks (report_columns (settings_of settings)) blocks model
@@ -41,7 +46,8 @@ ways_among (Treated ways mining) = length ways
 
 -- the tonnes of a block where it goes this way, and nothing otherwise
 abbrev pub tonnes_if : BlocksView → ℕ → ℕ → Option ℕ → ℕ → ℤ
-tonnes_if m column b goes way = cond (goes_way goes way) (slice_index_or (slice_index_or m.columns column []) b (pos 0)) (pos 0)
+tonnes_if m column b goes way = cond (goes_way goes way)
+    (slice_index_or (slice_index_or m.columns column []) b (pos 0)) (pos 0)
 
 -- which way a block goes, by a list of the ways of all
 abbrev pub way_in : List (Option ℕ) → ℕ → Option ℕ
@@ -53,32 +59,36 @@ tonnes_going m column ways way b = tonnes_if m column b (way_in ways b) way
 
 -- a number for each row of the bench table of these blocks, whatever they are worth: the row's tonnes that go this way
 abbrev pub IsWayColumn : BlocksView → PriceColumns → SeriesView → List (Option ℕ) → ℕ → List ℤ → Type 0
-IsWayColumn m priced_by series ways way column = (worths : List ℤ) (rows : List BenchRow) → IsBenchTable (blocks_with m priced_by series worths) rows
+IsWayColumn m priced_by series ways way column = (worths : List ℤ) (rows : List BenchRow)
+    → IsBenchTable (blocks_with m priced_by series worths) rows
     → column ≡ map (λ r. way_tonnes (blocks_with m priced_by series worths) (way_in ways) r way) rows
 
 -- a list of such numbers for each of n ways
 abbrev pub AreWayColumns : BlocksView → PriceColumns → SeriesView → List (Option ℕ) → ℕ → List (Vec ℤ Global) → Type 0
-AreWayColumns m priced_by series ways n columns = (worths : List ℤ) (rows : List BenchRow) → IsBenchTable (blocks_with m priced_by series worths) rows
-    → map (λ column. column.items) columns ≡ map (λ i. map (λ r. way_tonnes (blocks_with m priced_by series worths) (way_in ways) r i) rows) (range_with_len 0 n)
+AreWayColumns m priced_by series ways n columns = (worths : List ℤ) (rows : List BenchRow)
+    → IsBenchTable (blocks_with m priced_by series worths) rows
+    → map (λ column. column.items) columns ≡ map
+    (λ i. map (λ r. way_tonnes (blocks_with m priced_by series worths) (way_in ways) r i) rows) (range_with_len 0 n)
 
 -- The prices are the first columns of a model, one more has tonnes, and no value of these is large.
 pub record IsPricedModel (priced_by : PriceColumns) (m : BlocksView) (prices : PricesView) : Type 0 where
   pub columns : place_beside priced_by < length m.columns
   pub prices_are : prices ≡ first_columns priced_by m
-  pub small : (i : ℕ) → i ≤ place_beside priced_by → IsSmall m i
+  pub small : (i : ℕ) → i ≤ place_beside priced_by → IsSmallColumn m i
 
 -- the columns that settings name, and their list
-abbrev pub columns_by : SettingsView → ReportColumns
-columns_by s = record { prices = columns_said s; tonnes = unwrap_or s.tonnes 0; region = s.region }
+abbrev pub report_columns_by : SettingsView → ReportColumns
+report_columns_by s = record { prices = columns_said s; tonnes = unwrap_or s.tonnes 0; region = s.region }
 
 abbrev pub report_list : ReportColumns → List ℕ
 report_list columns = column_list columns.prices ++ (columns.tonnes ∷ columns_for columns.region)
 
 -- The settings, the columns, the factors and the factor of the report are those of the text of settings.
-pub record IsSaid (sloped : Bool) (settings : List ℕ) (said : SettingsView) (columns : ReportColumns) (factors : List ℕ) (factor : ℕ) : Type 0 where
+pub record IsSaid (sloped : Bool) (settings : List ℕ) (said : SettingsView) (columns : ReportColumns)
+    (factors : List ℕ) (factor : ℕ) : Type 0 where
   pub keys : ReportKeysKnown sloped settings
   pub said_is : settings_of settings ≡ said
-  pub columns_are : columns ≡ columns_by (settings_of settings)
+  pub columns_are : columns ≡ report_columns_by (settings_of settings)
   pub factors_are : factors ≡ factors_said settings
   pub factor_is : factor ≡ report_factor settings
 
@@ -96,7 +106,9 @@ regions_among said priced_by m = narrowed (column_after (place_beside priced_by 
 -- who rests on whom among n blocks, as a text of its own lists it or as the slopes of settings say, was read
 abbrev pub ReadsRests : PrecedenceBy → SettingsView → PriceColumns → BlocksView → ℕ → RestsView → Type 0
 ReadsRests (by_text precedence) said priced_by m n rests = ReadsPrec n precedence rests
-ReadsRests by_slopes said priced_by m n rests = (rests.blocks ≡ m.blocks) × SlopesRead said (regions_among said priced_by m) × ArePairsBy (rests_said said (regions_among said priced_by m)) rests.pairs
+ReadsRests by_slopes said priced_by m n rests = (rests.blocks ≡ m.blocks)
+    × SlopesRead said (regions_among said priced_by m)
+    × ArePairsBy (rests_said said (regions_among said priced_by m)) rests.pairs
 
 -- why it isn't read
 abbrev pub RestsReadFail : PrecedenceBy → SettingsView → PriceColumns → BlocksView → ℕ → EngineFault → Type 0
@@ -106,7 +118,8 @@ RestsReadFail by_slopes said priced_by m n = PairsSaidFail said (regions_among s
 -- why blocks with these columns, and their prices, aren't read
 abbrev pub PricedModelFails : ReportColumns → List ℕ → EngineFault → Type 0
 PricedModelFails columns text (engine.Blocks p) = BlocksFails (report_list columns) text p
-PricedModelFails columns text (engine.Prices fault) = (m : BlocksView) × ReadsBlocks (report_list columns) text m × PricesFaultStands (first_columns columns.prices m) fault
+PricedModelFails columns text (engine.Prices fault) = (m : BlocksView) × ReadsBlocks (report_list columns) text m
+    × PricesFaultStands (first_columns columns.prices m) fault
 PricedModelFails columns text engine.Memory = Unit {0}
 PricedModelFails columns text engine.Device = Unit {0}
 PricedModelFails columns text _ = ⊥

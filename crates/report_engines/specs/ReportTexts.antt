@@ -8,9 +8,11 @@ use Rattle.settings_file.specs.declared.keys.Key.TheVariants.{Tonnes, Factors, W
 use Rattle.settings_file.specs.Settings.{SettingsView, settings_of, is_said, names_mill}
 use Rattle.shells.specs.Prices.{PricesFaultStands, worth_at}
 use Rattle.bench_report.specs.Benches.{ReportedBlocks}
-use Rattle.mine_inputs.specs.declared.engine_fault.EngineFault.{EngineFault}
-use Rattle.mine_inputs.specs.declared.engine_fault.EngineFault.TheVariants as engine
-use Rattle.mine_inputs.specs.Prelude.{IsWithinLimit, BlocksFails, PrecedenceBy, is_sloped, texts_by, keys_by, others_by, unused_by, price_columns, region_columns, cell, table_of, KeysSaid, SettingsFails, MineFails}
+use Rattle.engine_faults.specs.declared.engine_fault.EngineFault.{EngineFault}
+use Rattle.engine_faults.specs.declared.engine_fault.EngineFault.TheVariants as engine
+use Rattle.mine_inputs.specs.Prelude.{IsWithinLimit, BlocksFails, PrecedenceBy, is_sloped, texts_by, keys_by, others_by}
+use Rattle.mine_inputs.specs.Prelude.{unused_by, price_columns, region_columns, cell, table_of, KeysSaid, SettingsFails}
+use Rattle.mine_inputs.specs.Prelude.{MineFails}
 use Rattle.shell_engines.specs.SeriesTexts.{factors_said, report_factor}
 
 -- the keys that a report needs, where settings list slopes and where they don't
@@ -30,7 +32,7 @@ report_columns s = price_columns s ++ (unwrap_or s.tonnes 0 ∷ region_columns s
 pub record ReportBlocksRead (sloped : Bool) (settings text : List ℕ) : Type 0 where
   pub keys : ReportKeysKnown sloped settings
   pub within : IsWithinLimit text
-  pub read : blocks.fault_of (report_columns (settings_of settings)) text ≡ None
+  pub read : blocks.blocks_fault_of (report_columns (settings_of settings)) text ≡ None
 
 -- What is reported of n blocks, where these are the pits at the factors: the height of a block and its tonnes as its
 -- record says; as its shell the first factor whose pit holds it; and its worth at the factor of the report.
@@ -45,9 +47,13 @@ report_blocks n settings text pit = record {
 
 -- why the texts aren't read: each fault stands, and none before it does
 abbrev pub ReportMineFails : List ℕ → List ℕ → PrecedenceBy → EngineFault → Type 0
-ReportMineFails settings text precedence (engine.Settings p) = SettingsFails (report_keys (is_sloped precedence)) (unused_by (is_sloped precedence)) settings p
-ReportMineFails settings text precedence (engine.Blocks p) = ReportKeysKnown (is_sloped precedence) settings × BlocksFails (report_columns (settings_of settings)) text p
-ReportMineFails settings text precedence (engine.Prices fault) = ReportBlocksRead (is_sloped precedence) settings text × PricesFaultStands (table_of settings text) fault
+ReportMineFails settings text precedence (engine.Settings p) = SettingsFails (report_keys (is_sloped precedence))
+    (unused_by (is_sloped precedence)) settings p
+ReportMineFails settings text precedence (engine.Blocks p) = ReportKeysKnown (is_sloped precedence) settings
+    × BlocksFails (report_columns (settings_of settings)) text p
+ReportMineFails settings text precedence (engine.Prices fault) = ReportBlocksRead (is_sloped precedence) settings text
+    × PricesFaultStands (table_of settings text) fault
 ReportMineFails settings text precedence engine.Memory = Unit {0}
 ReportMineFails settings text precedence engine.Device = Unit {0}
-ReportMineFails settings text precedence fault = ReportBlocksRead (is_sloped precedence) settings text × ((factor : ℕ) → MineFails (texts_by settings text precedence factor) fault)
+ReportMineFails settings text precedence fault = ReportBlocksRead (is_sloped precedence) settings text
+    × ((factor : ℕ) → MineFails (texts_by settings text precedence factor) fault)

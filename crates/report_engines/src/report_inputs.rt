@@ -1,7 +1,7 @@
 //! Reads settings and blocks, and predecessors where a text of their own lists them: gives a mine with prices and
 //! tonnes, the factors of its shells and that of the report, or the first fault of an input.
 
-ghost use Rattle.std.specs.Prelude.{◌≡◌, ◌≤◌, ◌+◌, ◌-◌, ◌^◌, ◌<◌, ◌↔◌, [], None, length, unwrap_or, IfOk, IfSome, MatchResult, IsErrOf};
+ghost use Rattle.std.specs.Prelude.{◌≡◌, ◌+◌, ◌-◌, ◌^◌, ◌<◌, ◌↔◌, [], None, length, IfOk, IfSome, MatchResult, IsErrOf};
 ghost use Rattle.settings_file.specs.Settings.{first_missing};
 ghost use Rattle.settings_file.specs.Values.{AreFactors};
 ghost use Rattle.mine_inputs.specs.Inputs.{IsMissing, ReadsSettingsText, SettingsReadFails};
@@ -11,20 +11,22 @@ ghost use Rattle.mine_inputs.specs.PricedTexts.{columns_said, place_beside, unus
 ghost use Rattle.mine_inputs.specs.SlopedTexts.{column_after};
 ghost use Rattle.shell_engines.specs.Devices.{ForSeries, InputsCanCount, failures_in, input_failures, NoInputFailed, precedence_in};
 ghost use Rattle.report_engines.specs.ReportTexts.{report_keys, ReportMineFails};
-ghost use Rattle.report_engines.specs.ReportParts.{columns_by, report_list, IsSaid, SaidFails, PricedModelFails, IsReportRead, IsPricedModel, ReadsRests, RestsReadFail};
+ghost use Rattle.report_engines.specs.ReportParts.{report_columns_by, report_list, IsSaid, SaidFails, PricedModelFails, IsReportRead, IsPricedModel, ReadsRests, RestsReadFail};
 
 use blocks_file::BlockModel;
-use engines::EngineFault;
-use fixed_worth::CountedRead;
-use held_pairs::HeldPairs;
+use counted_devices::CountedRead;
+use engine_faults::EngineFault;
+use held_pairs::{HeldPairs, Holder};
 use mine_inputs::{
     PriceColumns, held_by_slopes, held_from, place_beside, price_columns, priced_blocks_from,
     priced_settings_from, prices_of, settings_from,
 };
+use series_pits::SeriesMine;
 use settings_file::{Key, Settings};
-use shell_engines::series_inputs::{SeriesInputs, SeriesMine, factor_of, factors_of};
+use shell_engines::series_inputs::{SeriesInputs, factor_of, factors_of};
 use shells::{Factor, Prices};
 use std::alloc::Global;
+use std::thread::Threads;
 
 /// A mine that is reported.
 #[derive(Drop)]
@@ -64,7 +66,7 @@ fn prices_among(settings: &Settings, is_sloped: bool) -> Result<PriceColumns, En
 // The columns that settings name, where they say all that a report needs.
 fn columns_of(settings: &Settings, is_sloped: bool) -> Result<ReportColumns, EngineFault>
     ensures columns { MatchResult result
-        (λ columns. (columns ≡ columns_by settings.now)
+        (λ columns. (columns ≡ report_columns_by settings.now)
         × (first_missing (report_keys is_sloped settings.now) settings.now ≡ None))
         (IsMissing (report_keys is_sloped settings.now) settings.now) }
     ensures no_device { ¬ IsErrOf result EngineFault.Device }
@@ -122,7 +124,7 @@ fn said_from<S: CountedRead>(
     ensures read { IfSome (S.remaining settings.old) (λ s. MatchResult result
         (λ said. IsSaid is_sloped s said.settings said.columns said.factors.items said.factor)
         (SaidFails is_sloped s)) }
-    ensures columns { IfOk result (λ said. said.columns ≡ columns_by said.settings) }
+    ensures columns { IfOk result (λ said. said.columns ≡ report_columns_by said.settings) }
     ensures device { IsErrOf result EngineFault.Device
         ↔ (S.failed settings.new ≡ S.failed settings.old + 1) }
     ensures kept { ¬ IsErrOf result EngineFault.Device
@@ -150,7 +152,8 @@ fn report_blocks_from<B: CountedRead>(
     ensures read { IfSome (B.remaining blocks.old) (λ text. MatchResult result
         (ReadsBlocks (report_list columns.now) text)
         (BlocksReadFails (report_list columns.now) text)) }
-    ensures columns { IfOk result (λ model. length model.columns ≡ length (report_list columns.now)) }
+    ensures columns { IfOk result
+        (λ model. length model.columns ≡ length (report_list columns.now)) }
     ensures device { IsErrOf result EngineFault.Device
         ↔ (B.failed blocks.new ≡ B.failed blocks.old + 1) }
     ensures kept { ¬ IsErrOf result EngineFault.Device → B.failed blocks.new ≡ B.failed blocks.old }
@@ -203,14 +206,16 @@ fn priced_model_from<B: CountedRead>(
 }
 
 // Who rests on whom: as a text of its own lists it, where there is one, and else by the slopes of settings.
-fn rests_from<D: CountedRead>(
+fn rests_from<R: Threads + Sync, D: CountedRead>(
+    rt: &R,
     alloc: Global,
     prec: &mut Option<D>,
     read: &PricedModel,
     settings: &Settings,
 ) -> Result<HeldPairs, EngineFault>
     requires room { failures_in prec.old D.failed < 2 ^ 64 - 1 }
-    requires columns { IfSome (column_after (place_beside read.now.priced_by + 1) settings.now.region)
+    requires columns { IfSome
+        (column_after (place_beside read.now.priced_by + 1) settings.now.region)
         (λ i. i < length read.now.model.columns) }
     ensures read { IfSome (precedence_in prec.old D.remaining) (λ p. MatchResult result
         (ReadsRests p settings.now read.now.priced_by read.now.model (priced_count read.now.prices))
@@ -226,12 +231,12 @@ fn rests_from<D: CountedRead>(
     // proof: no revenue of prices is negative
     let n = read.prices.len();
     match prec {
-        Some(prec) => held_from(alloc, prec, n),
+        Some(prec) => held_from(rt, alloc, prec, n, None),
         None => {
             // proof: few columns are chosen
             let _columns = read.model.columns();
             let others = place_beside(&read.priced_by) + 1;
-            held_by_slopes(alloc, &read.model, others, settings)
+            held_by_slopes(alloc, &read.model, others, settings, Holder::Places)
         }
     }
 }
@@ -242,7 +247,8 @@ fn rests_from<D: CountedRead>(
 /// # Errors
 /// In this order: `Settings` for a fault of this text or a missing key; `Blocks`; `Prices` for a negative revenue;
 /// `Prec`, or where slopes stand in its place `Slope`. `Memory` where memory is refused, `Device` where a read fails.
-pub fn report_mine_from<D: CountedRead>(
+pub fn report_mine_from<R: Threads + Sync, D: CountedRead>(
+    rt: &R,
     alloc: Global,
     inputs: &mut SeriesInputs<D>,
 ) -> Result<ReportMine, EngineFault>
@@ -259,7 +265,7 @@ pub fn report_mine_from<D: CountedRead>(
     let is_sloped = inputs.has_slopes();
     let said = said_from(alloc, &mut inputs.settings, is_sloped)?;
     let read = priced_model_from(alloc, &mut inputs.blocks, said.columns)?;
-    let predecessors = rests_from(alloc, &mut inputs.prec, &read, &said.settings)?;
+    let predecessors = rests_from(rt, alloc, &mut inputs.prec, &read, &said.settings)?;
     let series = SeriesMine {
         prices: read.prices,
         predecessors,

@@ -10,14 +10,17 @@ ghost use Rattle.report_engines.specs.ReportParts.{IsReportRead};
 use crate::bench_rows::{ShellBlocks, rows_at};
 use crate::report_inputs::{ReportMine, report_mine_from};
 use crate::way_rows::text_of;
-use engines::{Effort, EngineFault, Verdict};
-use fixed_worth::{CountedRead, CountedWrite};
+use check_engines::Verdict;
+use counted_devices::{CountedRead, CountedWrite};
+use engine_faults::EngineFault;
+use option_words::Effort;
 use pseudoflow::Progress;
+use series_pits::SeriesProgress;
+use series_pits::settled_series::settle;
 use shell_engines::block_tables::table_if_asked;
 use shell_engines::series_engine::no_series;
 use shell_engines::series_outputs::{Answer, Wanted, send};
-use shell_engines::settled_series::settle;
-use shell_engines::{SeriesInputs, SeriesOutputs, SeriesProgress};
+use shell_engines::{SeriesInputs, SeriesOutputs};
 use shells::laws;
 use std::alloc::Global;
 use std::sync::Wait;
@@ -79,7 +82,7 @@ pub fn report_engine<
         → NoInputFailed inputs.old inputs.new D.failed
         × NoOutputFailed outputs.old outputs.new V.failed W.failed }
 {
-    let mine = report_mine_from(alloc, inputs)?;
+    let mine = report_mine_from(rt, alloc, inputs)?;
     let wanted = outputs.wanted();
     let answer = answer_of(rt, alloc, mine, effort, gate, wanted)?;
     send(&answer, outputs)

@@ -1,16 +1,20 @@
 -- What a text says as settings: a TOML document, and what its table has at each key.
-use Rattle.std.specs.Prelude.{◌≡◌, ◌≤◌, ℕ, ◌||◌, IfSome, Bool, true, cond, ℤ, List, [], ◌∷◌, Option, Some, None, is_some, Result, Ok, Err, IsUtf8, ◌++◌, codes}
+use Rattle.std.specs.Prelude.{◌≡◌, ◌≤◌, ℕ, ◌||◌, IfSome, Bool, true, cond, ℤ, List, [], ◌∷◌, Option, Some, None}
+use Rattle.std.specs.Prelude.{is_some, Result, Ok, Err, IsUtf8, codes}
 use Rattle.toml.specs.Parse.{parse_document}
 use Rattle.toml.specs.Data.{Data, Members, get_member}
 use Rattle.fixed_worth.specs.declared.limits.TheConstants.{MOST_FACTOR}
 use Rattle.settings_file.specs.declared.keys.Key.{Key}
-use Rattle.settings_file.specs.declared.keys.Key.TheVariants.{Revenue, Cost, Tonnes, Factors, Report, Offsets, Processing, Mining, Slopes, Region, Up, Ways}
+use Rattle.settings_file.specs.declared.keys.Key.TheVariants.{Revenue, Cost, Tonnes, Factors, Report, Offsets}
+use Rattle.settings_file.specs.declared.keys.Key.TheVariants.{Processing, Mining, Slopes, Region, Up, Ways}
 use Rattle.settings_file.specs.declared.settings_fault.SettingsFault.{SettingsFault}
-use Rattle.settings_file.specs.declared.settings_fault.SettingsFault.TheVariants.{NotToml, UnknownKey, BadValue, Unused, Missing, NoMemory}
-use Rattle.settings_file.specs.Keys.{key_name, all_known}
+use Rattle.settings_file.specs.declared.settings_fault.SettingsFault.TheVariants.{NotToml, UnknownKey, BadValue, Unused}
+use Rattle.settings_file.specs.declared.settings_fault.SettingsFault.TheVariants.{Missing, NoMemory}
+use Rattle.settings_file.specs.Keys.{settings_key_name, all_settings_keys}
 use Rattle.settings_file.specs.declared.up_sign.UpSign.{UpSign}
 use Rattle.settings_file.specs.declared.ways.WayColumns.{WayColumns}
-use Rattle.settings_file.specs.Values.{whole_value_within, factors_of, offsets_of, slopes_of, sign_of, ways_of, AreFactors, AreWays}
+use Rattle.toml_values.specs.Prelude.{Says, then_with, whole_value_within, with_key}
+use Rattle.settings_file.specs.Values.{factors_of, offsets_of, slopes_of, sign_of, ways_of, AreFactors, AreWays}
 
 -- What the type shows: the value of each key, where the text has the key.
 pub record SettingsView : Type 0 where
@@ -35,7 +39,9 @@ pub record RegionsView : Type 0 where
   pub up : Option UpSign
 
 -- what the type shows, by the values of the keys
-abbrev pub settings_view : (revenue cost tonnes : Option ℕ) (factors : Option (List ℕ)) (report : Option ℕ) (offsets : Option (List (ℤ × ℤ × ℤ))) (processing mining : Option ℕ) (slopes : Option (List (List (ℤ × ℤ × ℤ)))) (region : Option ℕ) (up : Option UpSign) (ways : Option (List WayColumns)) → SettingsView
+abbrev pub settings_view : (revenue cost tonnes : Option ℕ) (factors : Option (List ℕ)) (report : Option ℕ)
+    (offsets : Option (List (ℤ × ℤ × ℤ))) (processing mining : Option ℕ) (slopes : Option (List (List (ℤ × ℤ × ℤ))))
+    (region : Option ℕ) (up : Option UpSign) (ways : Option (List WayColumns)) → SettingsView
 settings_view revenue cost tonnes factors report offsets processing mining slopes region up ways = record {
   revenue = revenue;
   cost = cost;
@@ -65,76 +71,65 @@ pub record IsSettings (s : SettingsView) : Type 0 where
   pub ways : IfSome s.ways AreWays
 
 -- What a value at a key reads as; one that doesn't read is bad.
-abbrev pub or_bad : {V : Type 0} → Key → Option V → Result (Option V) SettingsFault
-or_bad key (Some v) = Ok (Some v)
-or_bad key None = Err (BadValue key)
+abbrev pub optional_or_bad : {V : Type 0} → Key → Option V → Result (Option V) SettingsFault
+optional_or_bad key (Some v) = Ok (Some v)
+optional_or_bad key None = Err (BadValue key)
 
 -- What a key says by its value, if any: a missing key says nothing, and a value that doesn't read is bad.
-abbrev pub value_said : {V : Type 0} → Key → (Data → Option V) → Option Data → Result (Option V) SettingsFault
-value_said key reads None = Ok None
-value_said key reads (Some d) = or_bad key (reads d)
+abbrev pub optional_said : {V : Type 0} → Key → (Data → Option V) → Option Data → Result (Option V) SettingsFault
+optional_said key reads None = Ok None
+optional_said key reads (Some d) = optional_or_bad key (reads d)
 
 -- What a table says at a key whose value has to read so.
-abbrev pub said_at : {V : Type 0} → Key → (Data → Option V) → Members → Result (Option V) SettingsFault
-said_at key reads ms = value_said key reads (get_member (key_name key) ms)
+abbrev pub optional_at : {V : Type 0} → Key → (Data → Option V) → Members → Result (Option V) SettingsFault
+optional_at key reads ms = optional_said key reads (get_member (settings_key_name key) ms)
 
 -- whether a table names a charge of a mill, be its value what it may
 abbrev pub has_mill : Members → Bool
-has_mill ms = is_some (get_member (key_name Processing) ms) || is_some (get_member (key_name Mining) ms)
+has_mill ms = is_some (get_member (settings_key_name Processing) ms) || is_some
+    (get_member (settings_key_name Mining) ms)
 
 -- Where what stands in a key's place is there too, the key's value is bad.
 abbrev pub beside : {V : Type 0} → Key → Bool → Option V → Result (Option V) SettingsFault
 beside key true (Some v) = Err (BadValue key)
 beside key _ o = Ok o
 
--- The first fault, or what the next step says.
-abbrev pub then_with : {A B : Type 0} → Result A SettingsFault → (A → Result B SettingsFault) → Result B SettingsFault
-then_with (Ok x) next = next x
-then_with (Err e) next = Err e
-
 -- what a table says at the key of costs, in whose place a mill's charges stand
 abbrev pub cost_in : Members → Result (Option ℕ) SettingsFault
-cost_in ms = then_with (said_at Cost (whole_value_within 65535) ms) (beside Cost (has_mill ms))
+cost_in ms = then_with (optional_at Cost (whole_value_within 65535) ms) (beside Cost (has_mill ms))
 
 -- what a table says at the key of offsets, in whose place slopes by region stand
 abbrev pub offsets_in : Members → Result (Option (List (ℤ × ℤ × ℤ))) SettingsFault
-offsets_in ms = then_with (said_at Offsets offsets_of ms) (beside Offsets (is_some (get_member (key_name Slopes) ms)))
+offsets_in ms = then_with (optional_at Offsets offsets_of ms)
+    (beside Offsets (is_some (get_member (settings_key_name Slopes) ms)))
 
 -- what a table says of slopes by region
 abbrev pub regions_in : Members → Result RegionsView SettingsFault
 regions_in ms =
-    then_with (said_at Slopes slopes_of ms) (λ slopes.
-    then_with (said_at Region (whole_value_within 65535) ms) (λ region.
-    then_with (said_at Up sign_of ms) (λ up.
+    then_with (optional_at Slopes slopes_of ms) (λ slopes.
+    then_with (optional_at Region (whole_value_within 65535) ms) (λ region.
+    then_with (optional_at Up sign_of ms) (λ up.
     Ok (record { slopes = slopes; region = region; up = up }))))
 
 -- The value of each key, or the first key, in this order, whose value is bad.
-abbrev pub values_in : Members → Result SettingsView SettingsFault
-values_in ms =
-    then_with (said_at Revenue (whole_value_within 65535) ms) (λ revenue.
+abbrev pub settings_values_in : Members → Result SettingsView SettingsFault
+settings_values_in ms =
+    then_with (optional_at Revenue (whole_value_within 65535) ms) (λ revenue.
     then_with (cost_in ms) (λ cost.
-    then_with (said_at Tonnes (whole_value_within 65535) ms) (λ tonnes.
-    then_with (said_at Factors factors_of ms) (λ factors.
-    then_with (said_at Report (whole_value_within MOST_FACTOR) ms) (λ report.
+    then_with (optional_at Tonnes (whole_value_within 65535) ms) (λ tonnes.
+    then_with (optional_at Factors factors_of ms) (λ factors.
+    then_with (optional_at Report (whole_value_within MOST_FACTOR) ms) (λ report.
     then_with (offsets_in ms) (λ offsets.
-    then_with (said_at Processing (whole_value_within 65535) ms) (λ processing.
-    then_with (said_at Mining (whole_value_within 65535) ms) (λ mining.
+    then_with (optional_at Processing (whole_value_within 65535) ms) (λ processing.
+    then_with (optional_at Mining (whole_value_within 65535) ms) (λ mining.
     then_with (regions_in ms) (λ by.
-    then_with (said_at Ways ways_of ms) (λ ways.
-    Ok (settings_view revenue cost tonnes factors report offsets processing mining by.slopes by.region by.up ways)))))))))))
+    then_with (optional_at Ways ways_of ms) (λ ways.
+    Ok (settings_view revenue cost tonnes factors report offsets processing mining by.slopes by.region by.up
+    ways)))))))))))
 
 -- What a table says at each key, or its first fault: a name that is no key comes before all bad values.
 abbrev pub settings_in : Members → Result SettingsView SettingsFault
-settings_in ms = cond (all_known ms) (values_in ms) (Err UnknownKey)
-
--- The text is a TOML document with these members.
-pub record IsDocument (text : List ℕ) (ms : Members) : Type 0 where
-  pub utf8 : IsUtf8 text
-  pub parsed : parse_document text ≡ Some ms
-
--- The text is a document with members of which this holds.
-abbrev pub Says : List ℕ → (Members → Type 0) → Type 0
-Says text P = (ms : Members) × IsDocument text ms × P ms
+settings_in ms = cond (all_settings_keys ms) (settings_values_in ms) (Err UnknownKey)
 
 -- What the reader answers for a text. Memory is asked for only where the text is UTF-8, and a key that is missing or
 -- unused is no fault of the text.
@@ -193,15 +188,11 @@ abbrev pub first_said : List Key → SettingsView → Option Key
 first_said [] s = None
 first_said (key ∷ keys) s = cond (is_said s key) (Some key) (first_said keys s)
 
--- A word with a key in parentheses.
-abbrev pub at_key : List ℕ → Key → List ℕ
-at_key word key = word ++ (codes "(" ++ (key_name key ++ codes ")"))
-
 -- The fault's name, with its key in parentheses where it has one.
 abbrev pub settings_fault_text : SettingsFault → List ℕ
 settings_fault_text NotToml = codes "NotToml"
 settings_fault_text UnknownKey = codes "UnknownKey"
-settings_fault_text (BadValue key) = at_key (codes "BadValue") key
-settings_fault_text (Unused key) = at_key (codes "Unused") key
-settings_fault_text (Missing key) = at_key (codes "Missing") key
+settings_fault_text (BadValue key) = with_key (codes "BadValue") (settings_key_name key)
+settings_fault_text (Unused key) = with_key (codes "Unused") (settings_key_name key)
+settings_fault_text (Missing key) = with_key (codes "Missing") (settings_key_name key)
 settings_fault_text NoMemory = codes "NoMemory"

@@ -1,6 +1,7 @@
 -- What one value of a TOML document reads as.
 use Rattle.std.specs.Bool.{nat_le, nat_lt}
-use Rattle.std.specs.Prelude.{ℕ, ◌<◌, ◌≤◌, ◌&&◌, ◌||◌, Bool, true, cond, ℤ, pos, negsuc, List, [], ◌∷◌, length, slice_index, Option, Some, None, codes, bytes_eq}
+use Rattle.std.specs.Prelude.{ℕ, ◌<◌, ◌≤◌, ◌&&◌, ◌||◌, Bool, true, cond, ℤ, pos, negsuc, List, [], ◌∷◌, length}
+use Rattle.std.specs.Prelude.{slice_index, Option, Some, None, codes, bytes_eq}
 use Rattle.std.specs.List.{All}
 use Rattle.toml.specs.Data.{Data, Items, no_items, item, Members, get_member, as_integer, as_array, as_table, as_str}
 use Rattle.fixed_worth.specs.declared.limits.TheConstants.{MOST_FACTOR, MOST_FACTORS}
@@ -10,16 +11,8 @@ use Rattle.settings_file.specs.declared.up_sign.UpSign.{UpSign}
 use Rattle.settings_file.specs.declared.up_sign.UpSign.TheVariants.{Plus, Minus}
 use Rattle.settings_file.specs.declared.ways.WayColumns.{WayColumns}
 use Rattle.settings_file.specs.declared.ways.TheConstants.{MOST_WAYS}
-use Rattle.settings_file.specs.Keys.{key_name, all_named}
-
--- A whole number from 0 to the most, and nothing else.
-abbrev pub whole_upto : ℕ → Option ℤ → Option ℕ
-whole_upto most (Some (pos n)) = cond (nat_le n most) (Some n) None
-whole_upto most _ = None
-
--- What a value reads as that has to be a whole number from 0 to the most.
-abbrev pub whole_value_within : ℕ → Data → Option ℕ
-whole_value_within most d = whole_upto most (as_integer d)
+use Rattle.toml_values.specs.Prelude.{all_named, whole_value_within}
+use Rattle.settings_file.specs.Keys.{settings_key_name}
 
 -- A whole number from -2^31 to 2^31 - 1, and nothing else. (negsuc n is -1 - n.)
 abbrev pub whole_in_i32 : Option ℤ → Option ℤ
@@ -53,7 +46,8 @@ are_ascending (n ∷ ns) = is_below_first n ns && are_ascending ns
 
 -- Numbers that were read, where they are 1 to 64 and each is above the one before it.
 abbrev pub if_factors : Option (List ℕ) → Option (List ℕ)
-if_factors (Some ns) = cond ((nat_le 1 (length ns) && nat_le (length ns) MOST_FACTORS) && are_ascending ns) (Some ns) None
+if_factors (Some ns) = cond ((nat_le 1 (length ns) && nat_le (length ns) MOST_FACTORS) && are_ascending ns)
+    (Some ns) None
 if_factors None = None
 
 -- The factors that the items of an array are: whole numbers from 0 to 10,000, as many and in such order as factors must
@@ -101,7 +95,8 @@ slopes_of d = slopes_of_items (as_array d)
 
 -- Which way is up by a value that may be a text: "plus", where a greater z is higher, or "minus".
 abbrev pub sign_of_text : Option (List ℕ) → Option UpSign
-sign_of_text (Some word) = cond (bytes_eq word (codes "plus")) (Some Plus) (cond (bytes_eq word (codes "minus")) (Some Minus) None)
+sign_of_text (Some word) = cond (bytes_eq word (codes "plus")) (Some Plus)
+    (cond (bytes_eq word (codes "minus")) (Some Minus) None)
 sign_of_text None = None
 
 -- What a value reads as that has to say which way is up: the text "plus" or "minus".
@@ -110,7 +105,7 @@ sign_of d = sign_of_text (as_str d)
 
 -- whether a name is one of the two that a way's table has
 abbrev pub is_way_key : List ℕ → Bool
-is_way_key name = bytes_eq name (key_name Revenue) || bytes_eq name (key_name Processing)
+is_way_key name = bytes_eq name (settings_key_name Revenue) || bytes_eq name (settings_key_name Processing)
 
 -- What a value reads as, where there is one.
 abbrev pub read_if : {V : Type 0} → (Data → Option V) → Option Data → Option V
@@ -119,7 +114,7 @@ read_if reads None = None
 
 -- The number of a column at a key of a table; nothing where the key isn't there, or its value is no such number.
 abbrev pub column_at : Key → Members → Option ℕ
-column_at key ms = read_if (whole_value_within 65535) (get_member (key_name key) ms)
+column_at key ms = read_if (whole_value_within 65535) (get_member (settings_key_name key) ms)
 
 -- The columns of a way, and nothing where one of them didn't read.
 abbrev pub two_columns : Option ℕ → Option ℕ → Option WayColumns
@@ -128,7 +123,8 @@ two_columns _ _ = None
 
 -- The way that the members of a table are: its column of revenues and that of processing, and nothing else.
 abbrev pub way_of_members : Option Members → Option WayColumns
-way_of_members (Some ms) = cond (all_named is_way_key ms) (two_columns (column_at Revenue ms) (column_at Processing ms)) None
+way_of_members (Some ms) = cond (all_named is_way_key ms)
+    (two_columns (column_at Revenue ms) (column_at Processing ms)) None
 way_of_members None = None
 
 -- What a value reads as that has to be a way: a table `{ revenue = COLUMN, processing = COLUMN }`, with columns from 0

@@ -4,7 +4,8 @@
 ghost use Rattle.std.specs.Prelude.{◌≡◌, ◌≤◌, IfOk, IfSome, map, option_map};
 ghost use Rattle.std.specs.List.{All};
 ghost use Rattle.toml.specs.View.{view, array_view};
-ghost use Rattle.settings_file.specs.Values.{all_read, whole_value_within, offset_of, are_ascending, factors_of, offsets_of, slopes_of, AreFactors};
+ghost use Rattle.toml_values.specs.Prelude.{whole_value_within};
+ghost use Rattle.settings_file.specs.Values.{all_read, offset_of, are_ascending, factors_of, offsets_of, slopes_of, AreFactors};
 
 use crate::values::{number_in_i32, number_within};
 use fixed_worth::{MOST_FACTOR, MOST_FACTORS};

@@ -1,7 +1,7 @@
 //! Which keys settings may have, how each is written, and in which order their faults are answered.
 
 ghost use Rattle.std.specs.Prelude.{◌≡◌};
-ghost use Rattle.settings_file.specs.Keys.{key_name, is_known};
+ghost use Rattle.settings_file.specs.Keys.{settings_key_name, is_settings_key};
 
 /// A key of settings. They stand in the order in which their faults are answered.
 #[derive(Clone, Copy, Debug, PartialEq, Eq)]
@@ -35,7 +35,7 @@ pub enum Key {
 impl Key {
     /// The key as it is written in a text.
     pub fn name(self) -> &'static str
-        ensures { result.now ≡ key_name self }
+        ensures { result.now ≡ settings_key_name self }
     {
         match self {
             Key::Revenue => "revenue",
@@ -56,7 +56,7 @@ impl Key {
 
 // Whether a text is a key's name. The tests stand one by one, since the prover's search takes them singly.
 pub(crate) fn is_key(text: &str) -> bool
-    ensures { result ≡ is_known text.now }
+    ensures { result ≡ is_settings_key text.now }
 {
     if text == Key::Revenue.name() {
         return true;

@@ -4,10 +4,10 @@
 ghost use Rattle.std.specs.Prelude.{◌≡◌, ◌≤◌, ◌⊎◌, Ok, Err, IfOk, IfErr, IfSome, MatchResult, map, option_map, is_some};
 ghost use Rattle.toml.specs.Data.{get_member};
 ghost use Rattle.toml.specs.View.{table_view};
-ghost use Rattle.settings_file.specs.Keys.{key_name, all_known};
+ghost use Rattle.settings_file.specs.Keys.{settings_key_name, all_settings_keys};
 ghost use Rattle.settings_file.specs.Values.{factors_of, offsets_of, slopes_of, ways_of, AreFactors, AreWays};
-ghost use Rattle.settings_file.specs.GoodTables.{IsGoodUpToFactors, IsOfTable};
-ghost use Rattle.settings_file.specs.Settings.{said_at, has_mill, cost_in, offsets_in, regions_in, settings_in, ReadsSettings};
+ghost use Rattle.settings_file.specs.GoodTables.{IsGoodUpToFactors, IsOfSettingsTable};
+ghost use Rattle.settings_file.specs.Settings.{optional_at, has_mill, cost_in, offsets_in, regions_in, settings_in, ReadsSettings};
 
 use crate::arrays::{factors_in, offsets_in, slopes_in};
 use crate::keys::{Key, is_key};
@@ -18,10 +18,11 @@ use crate::ways::{WayColumns, ways_in};
 use fixed_worth::MOST_FACTOR;
 use std::alloc::Global;
 use toml::Table;
+use toml_values::{DocumentFault, read_document};
 
 // Whether every name of the table is a key.
 fn has_only_keys(table: &Table) -> bool
-    ensures { result ≡ all_known (table_view table.now) }
+    ensures { result ≡ all_settings_keys (table_view table.now) }
 {
     for name in table.keys() {
         if !is_key(name.as_str()) {
@@ -33,7 +34,7 @@ fn has_only_keys(table: &Table) -> bool
 
 // Whether the table has something at a key.
 fn has_key(table: &Table, key: Key) -> bool
-    ensures { result ≡ is_some (get_member (key_name key) (table_view table.now)) }
+    ensures { result ≡ is_some (get_member (settings_key_name key) (table_view table.now)) }
 {
     table.get(key.name()).is_some()
 }
@@ -61,10 +62,10 @@ fn cost_at(table: &Table) -> Result<Option<u32>, SettingsFault>
 // The factors of the table.
 fn factors_at(alloc: Global, table: &Table) -> Result<Option<Vec<u32>>, SettingsFault>
     ensures value { MatchResult result
-        (λ o. said_at Key.Factors factors_of (table_view table.now)
+        (λ o. optional_at Key.Factors factors_of (table_view table.now)
         ≡ Ok (option_map (λ v. v.items) o))
         (λ e. ¬ (e ≡ SettingsFault.NoMemory)
-        → said_at Key.Factors factors_of (table_view table.now) ≡ Err e) }
+        → optional_at Key.Factors factors_of (table_view table.now) ≡ Err e) }
     ensures form { IfOk result (λ o. IfSome o (λ v. AreFactors v.items)) }
     ensures fault { IfErr result (λ e. (e ≡ SettingsFault.BadValue Key.Factors)
         ⊎ (e ≡ SettingsFault.NoMemory)) }
@@ -82,10 +83,10 @@ fn factors_at(alloc: Global, table: &Table) -> Result<Option<Vec<u32>>, Settings
 // The offsets at their key, whatever stands beside it.
 fn listed_at(alloc: Global, table: &Table) -> Result<Option<Vec<(i32, i32, i32)>>, SettingsFault>
     ensures value { MatchResult result
-        (λ o. said_at Key.Offsets offsets_of (table_view table.now)
+        (λ o. optional_at Key.Offsets offsets_of (table_view table.now)
         ≡ Ok (option_map (λ v. v.items) o))
         (λ e. ¬ (e ≡ SettingsFault.NoMemory)
-        → said_at Key.Offsets offsets_of (table_view table.now) ≡ Err e) }
+        → optional_at Key.Offsets offsets_of (table_view table.now) ≡ Err e) }
     ensures fault { IfErr result (λ e. (e ≡ SettingsFault.BadValue Key.Offsets)
         ⊎ (e ≡ SettingsFault.NoMemory)) }
 {
@@ -120,10 +121,10 @@ fn slopes_at(
     table: &Table,
 ) -> Result<Option<Vec<Vec<(i32, i32, i32)>>>, SettingsFault>
     ensures value { MatchResult result
-        (λ o. said_at Key.Slopes slopes_of (table_view table.now)
+        (λ o. optional_at Key.Slopes slopes_of (table_view table.now)
         ≡ Ok (option_map (λ v. map (λ w. w.items) v.items) o))
         (λ e. ¬ (e ≡ SettingsFault.NoMemory)
-        → said_at Key.Slopes slopes_of (table_view table.now) ≡ Err e) }
+        → optional_at Key.Slopes slopes_of (table_view table.now) ≡ Err e) }
     ensures fault { IfErr result (λ e. (e ≡ SettingsFault.BadValue Key.Slopes)
         ⊎ (e ≡ SettingsFault.NoMemory)) }
 {
@@ -147,7 +148,7 @@ fn regions_at(alloc: Global, table: &Table) -> Result<RegionKeys, SettingsFault>
         }))
         (λ e. ¬ (e ≡ SettingsFault.NoMemory) → regions_in (table_view table.now) ≡ Err e) }
     ensures bound { IfOk result (λ by. IfSome by.region (λ column. column ≤ 65535)) }
-    ensures kind { IfErr result IsOfTable }
+    ensures kind { IfErr result IsOfSettingsTable }
 {
     let slopes = slopes_at(alloc, table)?;
     let region = number_at(table, Key::Region, MOST_COLUMN)?;
@@ -158,9 +159,10 @@ fn regions_at(alloc: Global, table: &Table) -> Result<RegionKeys, SettingsFault>
 // The ways to treat blocks of the table.
 fn ways_at(alloc: Global, table: &Table) -> Result<Option<Vec<WayColumns>>, SettingsFault>
     ensures value { MatchResult result
-        (λ o. said_at Key.Ways ways_of (table_view table.now) ≡ Ok (option_map (λ v. v.items) o))
+        (λ o. optional_at Key.Ways ways_of (table_view table.now)
+        ≡ Ok (option_map (λ v. v.items) o))
         (λ e. ¬ (e ≡ SettingsFault.NoMemory)
-        → said_at Key.Ways ways_of (table_view table.now) ≡ Err e) }
+        → optional_at Key.Ways ways_of (table_view table.now) ≡ Err e) }
     ensures form { IfOk result (λ o. IfSome o (λ v. AreWays v.items)) }
     ensures fault { IfErr result (λ e. (e ≡ SettingsFault.BadValue Key.Ways)
         ⊎ (e ≡ SettingsFault.NoMemory)) }
@@ -182,7 +184,7 @@ fn settings_of(alloc: Global, table: &Table) -> Result<Settings, SettingsFault>
         (λ e. ¬ (e ≡ SettingsFault.NoMemory) → settings_in (table_view table.now) ≡ Err e) }
     ensures early { IfErr result (λ e. e ≡ SettingsFault.NoMemory
         → IsGoodUpToFactors (table_view table.now)) }
-    ensures kind { IfErr result IsOfTable }
+    ensures kind { IfErr result IsOfSettingsTable }
 {
     if !has_only_keys(table) {
         return Err(SettingsFault::UnknownKey);
@@ -218,18 +220,9 @@ fn settings_of(alloc: Global, table: &Table) -> Result<Settings, SettingsFault>
 pub fn read_settings(alloc: Global, bytes: &[u8]) -> Result<Settings, SettingsFault>
     ensures { ReadsSettings bytes.now result }
 {
-    let text = match std::str::from_utf8(bytes) {
-        Ok(text) => text,
-        Err(_) => return Err(SettingsFault::NotToml),
-    };
-    match toml::table_from_str(alloc, text) {
+    match read_document(alloc, bytes) {
         Ok(table) => settings_of(alloc, &table),
-        Err(e) => {
-            if e.is_memory() {
-                Err(SettingsFault::NoMemory)
-            } else {
-                Err(SettingsFault::NotToml)
-            }
-        }
+        Err(DocumentFault::NotToml) => Err(SettingsFault::NotToml),
+        Err(DocumentFault::NoMemory) => Err(SettingsFault::NoMemory),
     }
 }

@@ -3,8 +3,9 @@
 
 ghost use Rattle.std.specs.Prelude.{◌≡◌, ◌≤◌, IfSome, IfOk, IfErr};
 ghost use Rattle.toml.specs.View.{view, table_view};
-ghost use Rattle.settings_file.specs.Values.{whole_value_within, offset_number, sign_of};
-ghost use Rattle.settings_file.specs.Settings.{said_at};
+ghost use Rattle.toml_values.specs.Prelude.{whole_value_within};
+ghost use Rattle.settings_file.specs.Values.{offset_number, sign_of};
+ghost use Rattle.settings_file.specs.Settings.{optional_at};
 
 use crate::keys::Key;
 use crate::settings_fault::SettingsFault;
@@ -23,14 +24,8 @@ pub(crate) fn number_within(value: &Value, most: u32) -> Option<u32>
     ensures value { result ≡ whole_value_within most (view value.now) }
     ensures bound { IfSome result (λ n. n ≤ most) }
 {
-    match value.as_integer() {
-        Some(number) => {
-            if 0 <= number && number <= most as i64 {
-                Some(number as u32)
-            } else {
-                None
-            }
-        }
+    match toml_values::number_within(value, most as u64) {
+        Some(number) => Some(number as u32),
         None => None,
     }
 }
@@ -53,7 +48,7 @@ pub(crate) fn number_in_i32(value: &Value) -> Option<i32>
 
 // The whole number from 0 to `most` at a key, or `None` where the table doesn't have the key.
 pub(crate) fn number_at(table: &Table, key: Key, most: u32) -> Result<Option<u32>, SettingsFault>
-    ensures value { result ≡ said_at key (whole_value_within most) (table_view table.now) }
+    ensures value { result ≡ optional_at key (whole_value_within most) (table_view table.now) }
     ensures bound { IfOk result (λ o. IfSome o (λ n. n ≤ most)) }
     ensures fault { IfErr result (λ e. e ≡ SettingsFault.BadValue key) }
 {
@@ -86,7 +81,7 @@ fn sign_in(value: &Value) -> Option<UpSign>
 
 // Which way is up, or `None` where the table doesn't say.
 pub(crate) fn sign_at(table: &Table) -> Result<Option<UpSign>, SettingsFault>
-    ensures value { result ≡ said_at Key.Up sign_of (table_view table.now) }
+    ensures value { result ≡ optional_at Key.Up sign_of (table_view table.now) }
     ensures fault { IfErr result (λ e. e ≡ SettingsFault.BadValue Key.Up) }
 {
     match table.get(Key::Up.name()) {

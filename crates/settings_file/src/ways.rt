@@ -3,7 +3,7 @@
 ghost use Rattle.std.specs.Prelude.{◌≡◌, ◌≤◌, IfOk, IfSome, option_map};
 ghost use Rattle.std.specs.List.{All};
 ghost use Rattle.toml.specs.View.{view, array_view, table_view};
-ghost use Rattle.settings_file.specs.Keys.{all_named};
+ghost use Rattle.toml_values.specs.Prelude.{all_named};
 ghost use Rattle.settings_file.specs.Values.{all_read, is_way_key, column_at, way_of, ways_of, IsWay, AreWays};
 
 use crate::keys::Key;

@@ -1,15 +1,7 @@
 pub mod Readings
-pub mod Nets
-pub mod Growing
 pub mod Lifted
 pub mod FirstShell
 pub mod BlockTables
 pub mod OneTable
 pub mod Answering
 pub mod Answers
-pub mod Proving
-pub mod Parting
-pub mod Merging
-pub mod Among
-pub mod Summing
-pub mod FewPairs

@@ -1,6 +1,7 @@
 -- The inputs and outputs of an engine over the factors of settings, as devices: the bytes that they tell, and the
 -- failures that they count.
-use Rattle.std.specs.Prelude.{◌≡◌, ℕ, ◌+◌, ◌-◌, ◌^◌, ◌<◌, Bool, true, false, List, Option, Some, None, IfSome, option_map}
+use Rattle.std.specs.Prelude.{◌≡◌, ℕ, ◌+◌, ◌-◌, ◌^◌, ◌<◌, Bool, true, false, List, Option, Some, None, IfSome}
+use Rattle.std.specs.Prelude.{option_map}
 use Rattle.mine_inputs.specs.Mines.{PrecedenceBy, by_slopes, by_text}
 use Rattle.shell_engines.specs.declared.series_inputs.SeriesInputs.{SeriesInputs}
 use Rattle.shell_engines.specs.declared.series_outputs.SeriesOutputs.{SeriesOutputs}
@@ -25,12 +26,15 @@ is_without None = true
 is_without (Some device) = false
 
 -- P holds of the texts, where all devices tell their bytes
-abbrev pub ForSeries : {D : Type 0} → SeriesInputs D → (D → Option (List ℕ)) → (List ℕ → List ℕ → PrecedenceBy → Type 0) → Type 0
-ForSeries inputs remaining P = IfSome (remaining inputs.settings) (λ s. IfSome (remaining inputs.blocks) (λ b. IfSome (precedence_in inputs.prec remaining) (λ p. P s b p)))
+abbrev pub ForSeries : {D : Type 0} → SeriesInputs D → (D → Option (List ℕ))
+    → (List ℕ → List ℕ → PrecedenceBy → Type 0) → Type 0
+ForSeries inputs remaining P = IfSome (remaining inputs.settings)
+    (λ s. IfSome (remaining inputs.blocks) (λ b. IfSome (precedence_in inputs.prec remaining) (λ p. P s b p)))
 
 -- each device has counted fewer than 2^64 - 1 failures, so that one more can be counted
 abbrev pub InputsCanCount : {D : Type 0} → SeriesInputs D → (D → ℕ) → Type 0
-InputsCanCount inputs failed = (failed inputs.settings < 2 ^ 64 - 1) × (failed inputs.blocks < 2 ^ 64 - 1) × (failures_in inputs.prec failed < 2 ^ 64 - 1)
+InputsCanCount inputs failed = (failed inputs.settings < 2 ^ 64 - 1) × (failed inputs.blocks < 2 ^ 64 - 1)
+    × (failures_in inputs.prec failed < 2 ^ 64 - 1)
 
 -- the failures that they have counted together
 abbrev pub input_failures : {D : Type 0} → SeriesInputs D → (D → ℕ) → ℕ
@@ -38,7 +42,8 @@ input_failures inputs failed = failed inputs.settings + failed inputs.blocks + f
 
 -- each device counts the failures that it had counted, and so none failed
 abbrev pub NoInputFailed : {D : Type 0} → SeriesInputs D → SeriesInputs D → (D → ℕ) → Type 0
-NoInputFailed old new failed = (failed new.settings ≡ failed old.settings) × (failed new.blocks ≡ failed old.blocks) × (failures_in new.prec failed ≡ failures_in old.prec failed)
+NoInputFailed old new failed = (failed new.settings ≡ failed old.settings) × (failed new.blocks ≡ failed old.blocks)
+    × (failures_in new.prec failed ≡ failures_in old.prec failed)
 
 -- ---- outputs
 
@@ -59,7 +64,8 @@ contents_in (Some device) contents = contents device
 
 -- each device has counted fewer than 2^64 - 1 failures
 abbrev pub OutputsCanCount : {V W : Type 0} → SeriesOutputs V W → (V → ℕ) → (W → ℕ) → Type 0
-OutputsCanCount outputs failed failed' = (failures_in outputs.by_block failed < 2 ^ 64 - 1) × (failed' outputs.out < 2 ^ 64 - 1)
+OutputsCanCount outputs failed failed' = (failures_in outputs.by_block failed < 2 ^ 64 - 1)
+    × (failed' outputs.out < 2 ^ 64 - 1)
 
 -- the failures that they have counted together
 abbrev pub output_failures : {V W : Type 0} → SeriesOutputs V W → (V → ℕ) → (W → ℕ) → ℕ
@@ -67,4 +73,5 @@ output_failures outputs failed failed' = failures_in outputs.by_block failed + f
 
 -- none failed
 abbrev pub NoOutputFailed : {V W : Type 0} → SeriesOutputs V W → SeriesOutputs V W → (V → ℕ) → (W → ℕ) → Type 0
-NoOutputFailed old new failed failed' = (failures_in new.by_block failed ≡ failures_in old.by_block failed) × (failed' new.out ≡ failed' old.out)
+NoOutputFailed old new failed failed' = (failures_in new.by_block failed ≡ failures_in old.by_block failed)
+    × (failed' new.out ≡ failed' old.out)

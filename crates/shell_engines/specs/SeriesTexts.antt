@@ -6,9 +6,10 @@ use Rattle.settings_file.specs.declared.keys.Key.{Key}
 use Rattle.settings_file.specs.declared.keys.Key.TheVariants.{Factors, Ways}
 use Rattle.settings_file.specs.Settings.{SettingsView, settings_of, is_said, names_mill, first_missing}
 use Rattle.shells.specs.Prices.{PricesView}
-use Rattle.mine_inputs.specs.declared.engine_fault.EngineFault.{EngineFault}
-use Rattle.mine_inputs.specs.declared.engine_fault.EngineFault.TheVariants as engine
-use Rattle.mine_inputs.specs.Prelude.{PrecedenceBy, is_sloped, texts_by, keys_by, others_by, unused_by, SettingsFails, MineFails, ArePricesRead}
+use Rattle.engine_faults.specs.declared.engine_fault.EngineFault.{EngineFault}
+use Rattle.engine_faults.specs.declared.engine_fault.EngineFault.TheVariants as engine
+use Rattle.mine_inputs.specs.Prelude.{PrecedenceBy, is_sloped, texts_by, keys_by, others_by, unused_by, SettingsFails}
+use Rattle.mine_inputs.specs.Prelude.{MineFails, ArePricesRead}
 
 -- the keys that a series of shells needs, where settings list slopes and where they don't
 abbrev pub series_keys : Bool → SettingsView → List Key
@@ -35,7 +36,8 @@ abbrev pub report_factor : List ℕ → ℕ
 report_factor settings = factor_by (settings_of settings)
 
 -- The prices, the pairs, the factors and the factor of the report that were read are those of the texts.
-pub record IsSeriesRead (settings blocks : List ℕ) (precedence : PrecedenceBy) (prices : PricesView) (rests : RestsView) (factors : List ℕ) (factor : ℕ) : Type 0 where
+pub record IsSeriesRead (settings blocks : List ℕ) (precedence : PrecedenceBy) (prices : PricesView)
+    (rests : RestsView) (factors : List ℕ) (factor : ℕ) : Type 0 where
   pub mine : ArePricesRead settings blocks precedence prices rests
   pub keys : KeysKnown (is_sloped precedence) settings
   pub factors_are : factors ≡ factors_said settings
@@ -43,7 +45,9 @@ pub record IsSeriesRead (settings blocks : List ℕ) (precedence : PrecedenceBy)
 
 -- why they aren't read: each fault stands, and none before it does
 abbrev pub SeriesMineFails : List ℕ → List ℕ → PrecedenceBy → EngineFault → Type 0
-SeriesMineFails settings blocks precedence (engine.Settings p) = SettingsFails (series_keys (is_sloped precedence)) (unused_by (is_sloped precedence)) settings p
+SeriesMineFails settings blocks precedence (engine.Settings p) = SettingsFails (series_keys (is_sloped precedence))
+    (unused_by (is_sloped precedence)) settings p
 SeriesMineFails settings blocks precedence engine.Memory = Unit {0}
 SeriesMineFails settings blocks precedence engine.Device = Unit {0}
-SeriesMineFails settings blocks precedence fault = KeysKnown (is_sloped precedence) settings × ((factor : ℕ) → MineFails (texts_by settings blocks precedence factor) fault)
+SeriesMineFails settings blocks precedence fault = KeysKnown (is_sloped precedence) settings
+    × ((factor : ℕ) → MineFails (texts_by settings blocks precedence factor) fault)

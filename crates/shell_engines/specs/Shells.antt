@@ -4,18 +4,18 @@ use Rattle.ordered_group.specs.declared.groups.Group.{Group}
 use Rattle.ordered_group.specs.declared.groups.Group.TheVariants.{Scaled}
 use Rattle.closure_net.specs.Prelude.{NetView, Mine, IsBest, LiesWithin}
 use Rattle.closure_net.specs.declared.net.NetFault.{NetFault}
-use Rattle.engines.specs.declared.judgement.Verdict.{Verdict}
-use Rattle.engines.specs.declared.judgement.Verdict.TheVariants.{Done, No}
-use Rattle.mine_inputs.specs.declared.engine_fault.EngineFault.{EngineFault}
-use Rattle.engines.specs.declared.effort.Effort.{Effort}
+use Rattle.check_engines.specs.declared.judgement.Verdict.{Verdict}
+use Rattle.check_engines.specs.declared.judgement.Verdict.TheVariants.{Done, No}
+use Rattle.engine_faults.specs.declared.engine_fault.EngineFault.{EngineFault}
+use Rattle.option_words.specs.declared.effort.Effort.{Effort}
 use Rattle.mine_inputs.specs.Mines.{PrecedenceBy, is_sloped, texts_by, DenoteMine}
-use Rattle.engines.specs.Prelude.{ModelFails, IsNetBy}
-use Rattle.engines.specs.declared.solvers.Unsolved.{Unsolved}
-use Rattle.shell_engines.specs.declared.shell_rows.ShellRow.{ShellRow}
+use Rattle.check_engines.specs.Prelude.{ModelFails}
+use Rattle.solve_engines.specs.Prelude.{IsNetBy}
+use Rattle.solve_engines.specs.declared.solvers.Unsolved.{Unsolved}
+use Rattle.series_pits.specs.declared.shell_rows.ShellRow.{ShellRow}
 use Rattle.shell_engines.specs.declared.series_outputs.Wanted.{Wanted}
-use Rattle.shell_engines.specs.SettledSeries.{NotSolvedStands}
+use Rattle.series_pits.specs.Prelude.{NotSolvedStands, AreRowsOf, shell_table_text, IsLineOf}
 use Rattle.shell_engines.specs.Answering.{FailsBy, Ends}
-use Rattle.shell_engines.specs.ShellTable.{AreRowsOf, shell_table_text, IsLineOf}
 use Rattle.shell_engines.specs.SeriesTexts.{KeysKnown, factors_said, SeriesMineFails}
 use Rattle.shell_engines.specs.BlockTables.{mine_at_factor, IsTableWanted}
 
@@ -45,19 +45,22 @@ pub record IsShellTable (settings blocks : List ℕ) (precedence : PrecedenceBy)
   pub spelled : text ≡ shell_table_text rows
 
 -- At one of the factors of the settings no pit is proved, for a reason that stands.
-pub record IsNoTable (settings blocks : List ℕ) (precedence : PrecedenceBy) (effort : Effort) (text : List ℕ) : Type 0 where
-  pub factor : ℕ
-  pub said : Contains (factors_said settings) factor
-  pub net : NetView
-  pub by : IsNetBy (texts_by settings blocks precedence factor) shell_group net
-  pub why : Unsolved
-  pub stands : NotSolvedStands net effort why
-  pub spelled : IsLineOf factor why text
+pub record IsNoTable (settings blocks : List ℕ) (precedence : PrecedenceBy) (effort : Effort) (text : List ℕ) : Type 0
+  where
+    pub factor : ℕ
+    pub said : Contains (factors_said settings) factor
+    pub net : NetView
+    pub by : IsNetBy (texts_by settings blocks precedence factor) shell_group net
+    pub why : Unsolved
+    pub stands : NotSolvedStands net effort why
+    pub spelled : IsLineOf factor why text
 
 -- the table of blocks, where one is wanted, and the text that answer for them
 abbrev pub AnswersShells : List ℕ → List ℕ → PrecedenceBy → Effort → Wanted → Verdict → List ℕ → List ℕ → Type 0
-AnswersShells settings blocks precedence effort wanted Done table text = IsShellTable settings blocks precedence text × IsTableWanted wanted settings blocks precedence table
-AnswersShells settings blocks precedence effort wanted No table text = IsNoTable settings blocks precedence effort text × (table ≡ [])
+AnswersShells settings blocks precedence effort wanted Done table text = IsShellTable settings blocks precedence text
+    × IsTableWanted wanted settings blocks precedence table
+AnswersShells settings blocks precedence effort wanted No table text = IsNoTable settings blocks precedence effort
+    text × (table ≡ [])
 
 -- at one of the factors of the settings an amount of the mine's doesn't fit
 pub record NoNetAt (settings blocks : List ℕ) (precedence : PrecedenceBy) (fault : NetFault) : Type 0 where
@@ -69,8 +72,11 @@ pub record NoNetAt (settings blocks : List ℕ) (precedence : PrecedenceBy) (fau
 
 -- why the engine answers a fault: it stands, and none before it does
 abbrev pub ShellsFail : List ℕ → List ℕ → PrecedenceBy → EngineFault → Type 0
-ShellsFail settings blocks precedence = FailsBy (SeriesMineFails settings blocks precedence) (DenoteSeries settings blocks precedence) (NoNetAt settings blocks precedence)
+ShellsFail settings blocks precedence = FailsBy (SeriesMineFails settings blocks precedence)
+    (DenoteSeries settings blocks precedence) (NoNetAt settings blocks precedence)
 
 -- the answer, and what was written with it
-abbrev pub Shells : List ℕ → List ℕ → PrecedenceBy → Effort → Wanted → Option (List ℕ) → Option (List ℕ) → Option (List ℕ) → Option (List ℕ) → Result Verdict EngineFault → Type 0
-Shells settings blocks precedence effort wanted = Ends (AnswersShells settings blocks precedence effort wanted) (ShellsFail settings blocks precedence)
+abbrev pub Shells : List ℕ → List ℕ → PrecedenceBy → Effort → Wanted → Option (List ℕ) → Option (List ℕ)
+    → Option (List ℕ) → Option (List ℕ) → Result Verdict EngineFault → Type 0
+Shells settings blocks precedence effort wanted = Ends (AnswersShells settings blocks precedence effort wanted)
+    (ShellsFail settings blocks precedence)

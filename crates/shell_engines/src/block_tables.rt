@@ -2,7 +2,7 @@
 
 ghost use Rattle.std.specs.Prelude.{true, IfOk, OnOk};
 ghost use Rattle.shells.specs.Series.{IsSeries};
-ghost use Rattle.shell_engines.specs.PitsAtFactors.{HasTableIfAsked};
+ghost use Rattle.shell_engines.specs.SeriesAnswers.{HasTableIfAsked};
 
 use crate::series_outputs::Wanted;
 use bench_report::{block_shells_text, block_ways_text};

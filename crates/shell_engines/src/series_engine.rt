@@ -4,24 +4,25 @@
 ghost use Rattle.std.specs.Prelude.{◌≡◌, ℕ, List, [], ◌+◌, MatchResult, IsErrOf};
 ghost use Rattle.mine_inputs.specs.Mines.{PrecedenceBy};
 ghost use Rattle.shell_engines.specs.Devices.{ForSeries, InputsCanCount, OutputsCanCount, input_failures, output_failures, NoInputFailed, NoOutputFailed, contents_in, wanted_by};
-ghost use Rattle.shell_engines.specs.ShellTable.{IsLineOf};
+ghost use Rattle.series_pits.specs.ShellTable.{IsLineOf};
 ghost use Rattle.shell_engines.specs.SeriesTexts.{IsSeriesRead};
 ghost use Rattle.shell_engines.specs.Shells.{AnswersShells, ShellsFail, Shells};
-ghost use Rattle.shell_engines.specs.PitsAtFactors.{IsWant, TellsWhy, IsFaultOf};
+ghost use Rattle.shell_engines.specs.SeriesAnswers.{IsWant, TellsWhy, IsFaultOf};
 
 use crate::block_tables::table_if_asked;
-use crate::no_series::NoSeries;
-use crate::series_inputs::{SeriesInputs, SeriesMine, series_mine_from};
+use crate::series_inputs::{SeriesInputs, series_mine_from};
 use crate::series_outputs::{Answer, SeriesOutputs, Wanted, send};
-use crate::series_progress::SeriesProgress;
-use crate::settled_series::settle;
-use crate::shell_rows::table_of;
-use engines::net_answer::line_of_no;
-use engines::solvers::Unsolved;
-use engines::{Effort, EngineFault, Verdict};
-use fixed_worth::{CountedRead, CountedWrite};
+use check_engines::Verdict;
+use counted_devices::{CountedRead, CountedWrite};
+use engine_faults::EngineFault;
+use option_words::Effort;
 use pseudoflow::Progress;
+use series_pits::no_series::NoSeries;
+use series_pits::settled_series::settle;
+use series_pits::{SeriesMine, SeriesProgress, table_of};
 use shells::laws;
+use solve_engines::net_answer::line_of_no;
+use solve_engines::solvers::Unsolved;
 use std::alloc::Global;
 use std::sync::Wait;
 use std::thread::Threads;
@@ -76,7 +77,7 @@ pub fn shells_engine<
         → NoInputFailed inputs.old inputs.new D.failed
         × NoOutputFailed outputs.old outputs.new V.failed W.failed }
 {
-    let mine = series_mine_from(alloc, inputs)?;
+    let mine = series_mine_from(rt, alloc, inputs)?;
     let wanted = outputs.wanted();
     let answer = answer_of(rt, alloc, mine, effort, gate, wanted)?;
     send(&answer, outputs)

@@ -4,22 +4,24 @@
 ghost use Rattle.std.specs.Prelude.{◌≡◌, ◌≤◌, ◌<◌, ◌+◌, ◌-◌, ◌^◌, ◌⊎◌, ◌∷◌, [], None, length, unwrap_or, All, IfOk, IfErr, IfSome, MatchResult, IsErrOf};
 ghost use Rattle.settings_file.specs.Settings.{first_missing};
 ghost use Rattle.settings_file.specs.Values.{AreFactors};
-ghost use Rattle.shells.specs.Prices.{priced_count};
 ghost use Rattle.mine_inputs.specs.Inputs.{IsMissing};
 ghost use Rattle.mine_inputs.specs.Mines.{by_text, by_slopes};
 ghost use Rattle.shell_engines.specs.Devices.{ForSeries, InputsCanCount, input_failures, is_without, NoInputFailed};
 ghost use Rattle.shell_engines.specs.SeriesTexts.{IsSeriesRead, SeriesMineFails, factor_by};
 
-use engines::EngineFault;
-use fixed_worth::{CountedRead, MOST_FACTOR};
-use held_pairs::HeldPairs;
+use counted_devices::CountedRead;
+use engine_faults::EngineFault;
+use fixed_worth::MOST_FACTOR;
+use held_pairs::Holder;
 use mine_inputs::{
     held_by_slopes, held_from, missing, place_beside, price_columns, priced_settings_from,
     prices_from, prices_of, regional_blocks_from, settings_from,
 };
+use series_pits::SeriesMine;
 use settings_file::{Key, Settings};
-use shells::{Factor, Prices};
+use shells::Factor;
 use std::alloc::{AllocError, Global};
+use std::thread::Threads;
 
 /// The inputs of a mine whose blocks have prices. They are read in the order of these fields, each to its end.
 #[derive(Drop)]
@@ -42,21 +44,6 @@ impl<D> SeriesInputs<D> {
             None => true,
         }
     }
-}
-
-/// A mine whose blocks have prices, and the factors at which its pits are wanted.
-#[derive(Drop)]
-pub struct SeriesMine {
-    /// The prices of the blocks.
-    pub prices: Prices,
-    /// Who rests on whom.
-    pub predecessors: HeldPairs,
-    /// The factors, rising.
-    pub factors: Vec<Factor>,
-    /// The factor of the report, at which ways and worths are told.
-    pub factor: Factor,
-    ghost form: { AreFactors factors.items },
-    ghost sizes: { predecessors.blocks ≡ priced_count prices },
 }
 
 // The factors of so many thousandths each.
@@ -109,7 +96,8 @@ pub fn factor_of(settings: &Settings, factors: &[Factor]) -> Factor
 }
 
 // The mine whose precedence is a text of its own.
-fn listed_series<D: CountedRead>(
+fn listed_series<R: Threads + Sync, D: CountedRead>(
+    rt: &R,
     alloc: Global,
     settings: &mut D,
     blocks: &mut D,
@@ -136,7 +124,7 @@ fn listed_series<D: CountedRead>(
     let factors = factors_of(alloc, &settings)?;
     let factor = factor_of(&settings, factors.as_slice());
     let prices = prices_from(alloc, blocks, &columns)?;
-    let predecessors = held_from(alloc, prec, prices.len())?;
+    let predecessors = held_from(rt, alloc, prec, prices.len(), None)?;
     Ok(SeriesMine {
         prices,
         predecessors,
@@ -174,7 +162,7 @@ fn sloped_series<D: CountedRead>(
     // proof: no revenue of prices is negative
     let _blocks = prices.len();
     let others = place_beside(&columns);
-    let predecessors = held_by_slopes(alloc, &model, others, &settings)?;
+    let predecessors = held_by_slopes(alloc, &model, others, &settings, Holder::Places)?;
     Ok(SeriesMine {
         prices,
         predecessors,
@@ -189,7 +177,8 @@ fn sloped_series<D: CountedRead>(
 /// # Errors
 /// In this order: `Settings` for a fault of this text or a missing key; `Blocks`; `Prices` for a negative revenue;
 /// `Prec`, or where slopes stand in its place `Slope`. `Memory` where memory is refused, `Device` where a read fails.
-pub fn series_mine_from<D: CountedRead>(
+pub fn series_mine_from<R: Threads + Sync, D: CountedRead>(
+    rt: &R,
     alloc: Global,
     inputs: &mut SeriesInputs<D>,
 ) -> Result<SeriesMine, EngineFault>
@@ -204,7 +193,7 @@ pub fn series_mine_from<D: CountedRead>(
         → NoInputFailed inputs.old inputs.new D.failed }
 {
     match &mut inputs.prec {
-        Some(prec) => listed_series(alloc, &mut inputs.settings, &mut inputs.blocks, prec),
+        Some(prec) => listed_series(rt, alloc, &mut inputs.settings, &mut inputs.blocks, prec),
         None => sloped_series(alloc, &mut inputs.settings, &mut inputs.blocks),
     }
 }

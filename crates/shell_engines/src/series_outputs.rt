@@ -3,12 +3,13 @@
 
 ghost use Rattle.std.specs.Prelude.{◌≡◌, ◌+◌, ◌-◌, ◌^◌, ◌<◌, OnOk, OnErr, IfOk, IfErr, IsErrOf};
 ghost use Rattle.std.specs.Io.KnownBytes.{Appends};
-ghost use Rattle.fixed_worth.specs.Device.{ReceivedPrefix};
+ghost use Rattle.counted_devices.specs.Device.{ReceivedPrefix};
 ghost use Rattle.shell_engines.specs.Answering.{IsCutShort};
 ghost use Rattle.shell_engines.specs.Devices.{is_asked, contents_in, failures_in, OutputsCanCount, output_failures, NoOutputFailed, wanted_by};
 
-use engines::{EngineFault, Verdict};
-use fixed_worth::{CountedWrite, WriteFault, write_text};
+use check_engines::Verdict;
+use counted_devices::{CountedWrite, WriteFault, write_text};
+use engine_faults::EngineFault;
 
 /// Where such an engine writes.
 #[derive(Drop)]

@@ -1,5 +1,7 @@
 -- Ascending factors, and one above them all.
-use Rattle.fixed_worth.proofs.Common.{◌≡◌, ℕ, ◌-◌, ◌<◌, List, [], ◌∷◌, ◌++◌, length, length-append, get_or, inl, inr, refl, ap, ◌∙◌, arith, Contains, cases_lt, get_or_default, get_or_append_left, common_steps}
+use Rattle.fixed_worth.proofs.Common.{◌≡◌, ℕ, ◌-◌, ◌<◌, List, [], ◌∷◌, ◌++◌, length, length-append, get_or, inl, inr}
+use Rattle.fixed_worth.proofs.Common.{refl, ap, ◌∙◌, arith, Contains, cases_lt, get_or_default, get_or_append_left}
+use Rattle.fixed_worth.proofs.Common.{common_steps}
 use Rattle.closure_net.specs.Network.{IsAscending}
 use Rattle.shells.specs.Series.{IsAboveAll}
 
@@ -10,16 +12,23 @@ last_at (x ∷ xs) k = last_at xs k
 pub one_last : (k x : ℕ) → Contains (k ∷ []) x → x ≡ k
 one_last k x c = grind (arith, common_steps)
 
-pub rising_more : (factors : List ℕ) (k : ℕ) → IsAscending factors → IsAboveAll factors k → IsAscending (factors ++ k ∷ [])
+pub rising_more : (factors : List ℕ) (k : ℕ) → IsAscending factors → IsAboveAll factors k
+    → IsAscending (factors ++ k ∷ [])
 rising_more factors k rising above i j l m =
     let size = length-append factors (k ∷ []) in
     elim (cases_lt j (length factors)) [
-      | inl inner ↦ rw (get_or_append_left factors (k ∷ []) 0 i (omega (arith, l, inner)), get_or_append_left factors (k ∷ []) 0 j inner) (rising i j l inner)
+      | inl inner ↦ rw (
+        get_or_append_left factors (k ∷ []) 0 i (omega (arith, l, inner)),
+        get_or_append_left factors
+            (k ∷ []) 0 j inner,
+      ) (rising i j l inner)
       | inr past ↦
           let last : j ≡ length factors = omega (arith, past, m, size) in
           let low : i < length factors = omega (arith, l, last) in
-          let here : get_or (factors ++ k ∷ []) j 0 ≡ k = ap (λ n. get_or (factors ++ k ∷ []) n 0) last ∙ last_at factors k in
-          rw (get_or_append_left factors (k ∷ []) 0 i low, here) (above (get_or factors i 0) (i, low, get_or_default factors i _ 0 low))
+          let here : get_or (factors ++ k ∷ []) j 0 ≡ k = ap (λ n. get_or (factors ++ k ∷ []) n 0) last
+          ∙ last_at factors k in
+          rw (get_or_append_left factors (k ∷ []) 0 i low, here)
+          (above (get_or factors i 0) (i, low, get_or_default factors i _ 0 low))
     ]
 
 -- what is above the last is above all

@@ -15,6 +15,7 @@ BestPitsAreNested = (above : ℕ → ℕ → Bool) (table : PricesView) (j k : �
 -- Where no revenue is negative, a pit that was accepted at a factor lies within one that was accepted at a higher
 -- factor, over the same pairs and prices, each as amounts of one of these kinds.
 abbrev pub AcceptedPitsAreNested : (ℤ → ℕ → Amount) → (ℤ → ℕ → Amount) → Type 0
-AcceptedPitsAreNested lower higher = (pairs : List (ℕ × ℕ)) (table : PricesView) (j k : ℕ) (a c : AcceptedView) → NoRevenueNegative table → j ≤ k
+AcceptedPitsAreNested lower higher = (pairs : List (ℕ × ℕ)) (table : PricesView) (j k : ℕ) (a c : AcceptedView)
+    → NoRevenueNegative table → j ≤ k
     → IsAccepted a → IsOver lower pairs table j a.net → IsAccepted c → IsOver higher pairs table k c.net
     → LiesWithin (mine_at pairs table j) (holds_of a.pit) (holds_of c.pit)

@@ -1,5 +1,6 @@
 -- A table of prices, and what it says a block is worth at a factor.
-use Rattle.std.specs.Prelude.{◌≡◌, ℕ, ◌<◌, ◌≤◌, ℤ, pos, ◌*ℤ◌, ◌-ℤ◌, ◌≤ℤ◌, ◌<ℤ◌, int_lt, ◌⊎◌, cond, List, [], ◌∷◌, length, map, slice_index_or, All, Any, position, Option, None}
+use Rattle.std.specs.Prelude.{◌≡◌, ℕ, ◌<◌, ◌≤◌, ℤ, pos, ◌*ℤ◌, ◌-ℤ◌, ◌≤ℤ◌, ◌<ℤ◌, int_lt, ◌⊎◌, cond, List, [], ◌∷◌}
+use Rattle.std.specs.Prelude.{length, map, slice_index_or, All, Any, position, Option, None}
 use Rattle.std.specs.Int.{int_max}
 use Rattle.std.specs.Ordering.{int_eq}
 use Rattle.std.specs.List.{range_with_len}
@@ -59,6 +60,18 @@ abbrev pub way_at : PricesView → ℕ → ℕ → Option ℕ
 way_at (plain_prices revenue cost) k b = None
 way_at (treated_prices ways mining) k b = first_best (worths_by ways k b)
 
+-- how many ways there are to treat a block beside waste
+abbrev pub way_count : PricesView → ℕ
+way_count (plain_prices revenue cost) = 0
+way_count (treated_prices ways mining) = length ways
+
+-- What block b is worth by a way, by its place in the order of the ways, at so many thousandths of its revenue, in
+-- billionths: past the last way as waste, which is charged for mining alone. Where there are no ways, what it is worth.
+abbrev pub worth_by_way : PricesView → ℕ → ℕ → ℕ → ℤ
+worth_by_way (plain_prices revenue cost) k way b = left_at revenue cost k b
+worth_by_way (treated_prices ways mining) k way b = slice_index_or (worths_by ways k b) way (pos 0) -ℤ pos 1000 *ℤ
+    number_at mining b
+
 -- the price that a certificate names at so many thousandths of the revenues
 abbrev pub price_of : PricesView → ℕ → Price
 price_of (plain_prices revenue cost) k = Factor k
@@ -84,7 +97,8 @@ HasNumbers n way = (length way.revenue ≡ n) × (length way.processing ≡ n)
 -- all lists have equally many numbers, and where blocks are treated there are 1 to `MOST_WAYS` ways
 abbrev pub AreListed : PricesView → Type 0
 AreListed (plain_prices revenue cost) = length cost ≡ length revenue
-AreListed (treated_prices ways mining) = (0 < length ways) × (length ways ≤ MOST_WAYS) × All (HasNumbers (length mining)) ways
+AreListed (treated_prices ways mining) = (0 < length ways) × (length ways ≤ MOST_WAYS)
+    × All (HasNumbers (length mining)) ways
 
 -- all lists have equally many numbers, at most `MOST_BLOCKS`, and no revenue is negative
 pub record IsTable (table : PricesView) : Type 0 where
@@ -102,4 +116,5 @@ pub record IsFirstNegative (table : PricesView) (b : ℕ) : Type 0 where
 -- revenue is negative, of which the first block is named
 abbrev pub PricesFaultStands : PricesView → PricesFault → Type 0
 PricesFaultStands table WrongLength = (AreListed table → ⊥) ⊎ (MOST_BLOCKS < priced_count table)
-PricesFaultStands table (NegativeRevenue b) = AreListed table × (priced_count table ≤ MOST_BLOCKS) × IsFirstNegative table b
+PricesFaultStands table (NegativeRevenue b) = AreListed table × (priced_count table ≤ MOST_BLOCKS)
+    × IsFirstNegative table b

@@ -1,5 +1,6 @@
 -- Nested shells over one table of prices.
-use Rattle.std.specs.Prelude.{◌≡◌, ◌≢◌, ℕ, ℤ, ◌<◌, ◌≤◌, ◌++◌, ◌∷◌, [], nat_le, Bool, false, cond, IsTrue, Option, Some, None, MatchOption, List, length, replicate, slice_index_or}
+use Rattle.std.specs.Prelude.{◌≡◌, ◌≢◌, ℕ, ℤ, ◌<◌, ◌≤◌, ◌++◌, ◌∷◌, [], nat_le, Bool, false, cond, IsTrue, Option, Some}
+use Rattle.std.specs.Prelude.{None, MatchOption, List, length, replicate, slice_index_or}
 use Rattle.std.specs.List.{Contains}
 use Rattle.fixed_worth.specs.declared.limits.TheConstants.{MOST_FACTORS}
 use Rattle.prec_file.specs.Rests.{RestsView, IsRests, has_pair}
@@ -53,7 +54,8 @@ pub record IsSeries (s : SeriesView) : Type 0 where
 
 -- the series before the first push: no block has a shell
 abbrev pub opened_series : List (ℕ × ℕ) → PricesView → SeriesView
-opened_series pairs table = record { pairs = pairs; prices = table; factors = []; shells = replicate (priced_count table) None }
+opened_series pairs table = record
+    { pairs = pairs; prices = table; factors = []; shells = replicate (priced_count table) None }
 
 -- why there is no series of n blocks and these prices; want of memory is told only where the lengths agree
 abbrev pub OpenFaultStands : ℕ → PricesView → SeriesFault → Type 0
@@ -88,19 +90,22 @@ IsShell s b o = MatchOption o
 
 -- each block of the net is worth what the table says, as an amount
 abbrev pub HasWorths : (ℤ → ℕ → Amount) → PricesView → ℕ → NetView → Type 0
-HasWorths block table k net = (b : ℕ) → b < length net.worths → amount_at net.worths b ≡ block (worth_at table k b) (length net.worths)
+HasWorths block table k net = (b : ℕ) → b < length net.worths
+    → amount_at net.worths b ≡ block (worth_at table k b) (length net.worths)
 
 -- the net has these pairs, and the amounts of the table's worths at k
-pub record IsOver (block : ℤ → ℕ → Amount) (ps : List (ℕ × ℕ)) (table : PricesView) (k : ℕ) (net : NetView) : Type 0 where
-  pub blocks : length net.worths ≡ priced_count table
-  pub pairs : net.pairs ≡ ps
-  pub worths : HasWorths block table k net
+pub record IsOver (block : ℤ → ℕ → Amount) (ps : List (ℕ × ℕ)) (table : PricesView) (k : ℕ) (net : NetView) : Type 0
+  where
+    pub blocks : length net.worths ≡ priced_count table
+    pub pairs : net.pairs ≡ ps
+    pub worths : HasWorths block table k net
 
 -- why a push is refused
 abbrev pub PushFaultStands : (ℤ → ℕ → Amount) → SeriesView → ℕ → NetView → SeriesFault → Type 0
 PushFaultStands block s k net NotHigher = ¬ (IsAboveAll s.factors k)
 PushFaultStands block s k net WrongModel = IsAboveAll s.factors k × ¬ (IsOver block s.pairs s.prices k net)
-PushFaultStands block s k net Full = IsAboveAll s.factors k × IsOver block s.pairs s.prices k net × (length s.factors ≡ MOST_FACTORS)
+PushFaultStands block s k net Full = IsAboveAll s.factors k × IsOver block s.pairs s.prices k net
+    × (length s.factors ≡ MOST_FACTORS)
 PushFaultStands block s k net NoMemory = ⊥
 
 -- what a series in memory is: there is room for 64 factors, and its pairs are of so many blocks

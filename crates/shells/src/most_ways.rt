@@ -1,4 +1,4 @@
-//! The most ways to treat a block.
+//! The limit on the ways to treat a block that a table of prices may have.
 
 ghost use Rattle.std.specs.Prelude.{◌≡◌};
 

@@ -3,10 +3,11 @@
 
 ghost use Rattle.std.specs.Prelude.{◌≡◌, ◌≢◌, ◌<◌, ◌≤◌, ◌≤ℤ◌, ℕ, pos, All, IfOk, MatchOption, MatchResult};
 ghost use Rattle.certificate_file.specs.ReadBack.{IsPrice};
-ghost use Rattle.shells.specs.Prices.{AreListed, plain_prices, treated_prices, priced_count, price_of, revenues_at, way_at, worth_at, worths_at, IsTable, IsFirstNegative, PricesFaultStands};
+ghost use Rattle.shells.specs.Prices.{AreListed, plain_prices, treated_prices, priced_count, price_of, revenues_at, way_at, way_count, worth_at, worth_by_way, worths_at, IsTable, IsFirstNegative, PricesFaultStands};
 ghost use Rattle.shells.specs.Shown.{shown_table};
 
 use crate::factor::Factor;
+use crate::most_ways::MOST_WAYS;
 use crate::prices_fault::PricesFault;
 use crate::tables::Table;
 use crate::ways::Way;
@@ -143,6 +144,23 @@ impl Prices {
         ensures { result ≡ worth_at self.now factor b }
     {
         self.table.worth(b, factor.get())
+    }
+
+    /// How many ways there are to treat a block, beside waste: none where blocks have costs.
+    pub fn way_count(&self) -> u32
+        ensures is { result ≡ way_count self.now }
+        ensures few { result ≤ MOST_WAYS }
+    {
+        self.table.way_count() as u32
+    }
+
+    /// What block b is worth by the way at this place in the order of the ways, at a factor and in billionths; past the
+    /// last of them as waste. Where there are no ways, what it is worth.
+    pub fn worth_by(&self, b: u32, way: u32, factor: Factor) -> i128
+        requires { b < priced_count self.now }
+        ensures { result ≡ worth_by_way self.now factor way b }
+    {
+        self.table.worth_by(b as usize, way as usize, factor.get())
     }
 
     /// Which way block b goes at a factor, by its place in the order of the ways: the first of those by which it is

@@ -39,10 +39,20 @@ impl Model for Series {
 
     ghost Value = { SeriesView };
 
-    ghost view = { λ s. record { pairs = s.rests.pairs; prices = s.prices; factors = s.factors.items; shells = s.shells.items } };
+    ghost view = { λ s. record {
+      pairs = s.rests.pairs;
+      prices = s.prices;
+      factors = s.factors.items;
+      shells = s.shells.items;
+    } };
 
     ghost invariant = { λ s. IsHeldSeries
-        (record { pairs = s.rests.pairs; prices = s.prices; factors = s.factors.items; shells = s.shells.items })
+        (record {
+          pairs = s.rests.pairs;
+          prices = s.prices;
+          factors = s.factors.items;
+          shells = s.shells.items;
+        })
         (vec_capacity s.factors) s.rests.blocks };
 }
 

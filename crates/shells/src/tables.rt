@@ -2,12 +2,12 @@
 
 ghost use Rattle.std.specs.Prelude.{◌≡◌, ◌<◌, ◌≤◌, ◌<ℤ◌, ◌≤ℤ◌, ◌↔◌, pos, IsTrue, All, Any, MatchBool};
 ghost use Rattle.certificate_file.specs.ReadBack.{IsPrice};
-ghost use Rattle.shells.specs.Prices.{AreListed, price_of, priced_count, revenues_at, way_at, worth_at};
+ghost use Rattle.shells.specs.Prices.{AreListed, price_of, priced_count, revenues_at, way_at, way_count, worth_at, worth_by_way};
 ghost use Rattle.shells.specs.Shown.{shown_table};
 
 use crate::amounts::{left_of, less};
 use crate::most_ways::MOST_WAYS;
-use crate::ways::{Way, best_way, best_worth, have_numbers, is_some_negative};
+use crate::ways::{Way, best_way, best_worth, have_numbers, is_some_negative, worth_one_way};
 use check_pit::Price;
 use fixed_worth::{MOST_FACTOR, Micros};
 
@@ -86,6 +86,34 @@ impl Table {
             Table::Plain { revenue, cost } => left_of(revenue[b], cost[b], thousandths),
             Table::Treated { ways, mining } => {
                 less(best_worth(ways, thousandths, b, mining.len()), mining[b])
+            }
+        }
+    }
+
+    // How many ways there are to treat a block.
+    pub(crate) fn way_count(&self) -> usize
+        requires { AreListed (shown_table self.now) }
+        ensures is { result ≡ way_count (shown_table self.now) }
+        ensures few { result ≤ MOST_WAYS }
+    {
+        match self {
+            Table::Plain { .. } => 0,
+            Table::Treated { ways, .. } => ways.len(),
+        }
+    }
+
+    // What block b is worth by a way, in billionths.
+    pub(crate) fn worth_by(&self, b: usize, way: usize, thousandths: u32) -> i128
+        requires listed { AreListed (shown_table self.now) }
+        requires block { b < priced_count (shown_table self.now) }
+        requires factor { thousandths ≤ MOST_FACTOR }
+        ensures { result ≡ worth_by_way (shown_table self.now) thousandths way b }
+    {
+        match self {
+            Table::Plain { revenue, cost } => left_of(revenue[b], cost[b], thousandths),
+            Table::Treated { ways, mining } => {
+                let worth = worth_one_way(ways, way, thousandths, b, mining.len());
+                less(worth, mining[b])
             }
         }
     }

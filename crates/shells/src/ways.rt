@@ -1,7 +1,7 @@
 //! A way to treat blocks, as milling or leaching: what each earns by it and what it costs to process it so; and which
 //! of several ways is worth most.
 
-ghost use Rattle.std.specs.Prelude.{◌≡◌, ◌<◌, ◌≤◌, ◌^◌, ◌*◌, ◌↔◌, ◌<ℤ◌, ◌≤ℤ◌, pos, length, map, position, unsigned_abs, IsTrue, All, Any, MatchBool};
+ghost use Rattle.std.specs.Prelude.{◌≡◌, ◌<◌, ◌≤◌, ◌^◌, ◌*◌, ◌↔◌, ◌<ℤ◌, ◌≤ℤ◌, pos, length, map, position, slice_index_or, unsigned_abs, IsTrue, All, Any, MatchBool};
 ghost use Rattle.std.specs.Ordering.{int_eq};
 ghost use Rattle.fixed_worth.specs.declared.limits.TheConstants.{MOST_FACTOR};
 ghost use Rattle.shells.specs.Prices.{HasNumbers, best_of, first_best, left_at, number_at, worths_by};
@@ -107,6 +107,27 @@ pub(crate) fn best_worth(ways: &[Way], thousandths: u32, b: usize, blocks: usize
         best = ways[i].worth(thousandths, b).max(best);
     }
     best
+}
+
+// What block b is worth by the way at this place, in billionths and before it is mined; as waste where there is none.
+pub(crate) fn worth_one_way(
+    ways: &[Way],
+    way: usize,
+    thousandths: u32,
+    b: usize,
+    blocks: usize,
+) -> i128
+    requires ways { All (HasNumbers blocks) ways.now }
+    requires factor { thousandths ≤ MOST_FACTOR }
+    requires block { b < blocks }
+    ensures is { result ≡ slice_index_or (worths_by ways.now thousandths b) way (pos 0) }
+    ensures bound { unsigned_abs result ≤ 2 * 10 ^ 22 }
+{
+    if way < ways.len() {
+        ways[way].worth(thousandths, b)
+    } else {
+        0
+    }
 }
 
 // Which of these ways block b goes, by its place among them: the first that is worth most; none where it goes to waste.

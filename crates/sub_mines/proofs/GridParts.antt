@@ -1,6 +1,8 @@
 -- Some blocks of a grid with numbers of their own are a precedence, whose pairs are those among them.
-use Rattle.fixed_worth.proofs.Common.{◌≡◌, ℕ, zero, suc, ◌<◌, ◌+◌, ◌-◌, ◌&&◌, ◌∙◌, nat_lt, Option, Some, None, IsTrue, length, get_or, sym, subst, ap, arith, common_steps, and_from, and_parts, lt-ltb, ltb-true, refl}
-use Rattle.places.specs.Prelude.{IsPrecedence, Leads, gridded, rests_at, way_at, block_in, implied}
+use Rattle.fixed_worth.proofs.Common.{◌≡◌, ℕ, zero, suc, ◌<◌, ◌+◌, ◌&&◌, ◌∙◌, nat_lt, Option, Some, None, IsTrue}
+use Rattle.fixed_worth.proofs.Common.{length, get_or, sym, subst, ap, arith, common_steps, and_from, and_parts, lt-ltb}
+use Rattle.fixed_worth.proofs.Common.{ltb-true, refl}
+use Rattle.places.specs.Prelude.{IsPrecedence, WayLeads, gridded, rests_at, grid_way, block_in, implied}
 use Rattle.places.proofs.ImpliedPairs.{implied_is}
 use Rattle.sub_mines.specs.Prelude.{AmongView, AreAmong, IsPartPairs, among, place_of, rests_among, number_in}
 
@@ -21,26 +23,29 @@ reached a None j e = grind (arith, common_steps)
 reached a (Some p) j e = record { block = p; there = refl; place = held_in (get_or a.places p 0) j e }
 
 module _ (a : AmongView) (h : AreAmong a) where
-  pub parts : (i j : ℕ) → IsTrue (rests_among a i j) → (i < length a.kept) × (j < length a.kept) × IsTrue (rests_at a.grid (number_in a.kept i) (number_in a.kept j))
+  pub parts : (i j : ℕ) → IsTrue (rests_among a i j) → (i < length a.kept) × (j < length a.kept)
+      × IsTrue (rests_at a.grid (number_in a.kept i) (number_in a.kept j))
   parts i j t =
-      let both = and_parts (nat_lt i (length a.kept) && nat_lt j (length a.kept)) (rests_at a.grid (number_in a.kept i) (number_in a.kept j)) t in
+      let both = and_parts (nat_lt i (length a.kept) && nat_lt j (length a.kept))
+      (rests_at a.grid (number_in a.kept i) (number_in a.kept j)) t in
       let own = and_parts (nat_lt i (length a.kept)) (nat_lt j (length a.kept)) both.0 in
       (ltb-true i (length a.kept) own.0, ltb-true j (length a.kept) own.1, both.1)
 
-  pub whole : (i j : ℕ) → i < length a.kept → j < length a.kept → IsTrue (rests_at a.grid (number_in a.kept i) (number_in a.kept j)) → IsTrue (rests_among a i j)
+  pub whole : (i j : ℕ) → i < length a.kept → j < length a.kept
+      → IsTrue (rests_at a.grid (number_in a.kept i) (number_in a.kept j)) → IsTrue (rests_among a i j)
   whole i j l k t = and_from _ _ (and_from _ _ (lt-ltb i (length a.kept) l) (lt-ltb j (length a.kept) k)) t
 
-  sound : (i j k : ℕ) → i < length a.kept → Leads (among a) i j k → IsTrue (rests_among a i j)
+  sound : (i j k : ℕ) → i < length a.kept → WayLeads (among a) i j k → IsTrue (rests_among a i j)
   sound i j k l w =
       let b = number_in a.kept i in
-      let r = reached a (way_at a.grid b k) j w.there in
+      let r = reached a (grid_way a.grid b k) j w.there in
       let t = h.precedes.sound b r.block k (h.below i 0 l) (record { inside = w.inside; there = r.there }) in
       let known = (h.precedes.known b r.block t).1 in
       let is = h.places.only r.block known (λ z. absurd (omega (arith, z, r.place))) in
       let same : number_in a.kept j ≡ r.block = ap (λ (x : ℕ). get_or a.kept x 0) (omega (arith, r.place)) ∙ is.1 in
       whole i j l (omega (arith, is.0, r.place)) (subst (λ (p : ℕ). IsTrue (rests_at a.grid b p)) (sym same) t)
 
-  found : (i j : ℕ) → IsTrue (rests_among a i j) → (k : ℕ) × Leads (among a) i j k
+  found : (i j : ℕ) → IsTrue (rests_among a i j) → (k : ℕ) × WayLeads (among a) i j k
   found i j t =
       let own = parts i j t in
       let w = h.precedes.found (number_in a.kept i) (number_in a.kept j) own.2 in

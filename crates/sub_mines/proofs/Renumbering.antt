@@ -1,5 +1,7 @@
 -- The best pit of a mine whose blocks have numbers of their own.
-use Rattle.fixed_worth.proofs.Common.{◌≡◌, ◌≢◌, ℕ, zero, suc, ◌+◌, ◌<◌, ℤ, pos, ◌+ℤ◌, Bool, true, false, cond, not, ◌&&◌, ◌||◌, IsTrue, inl, inr, sym, refl, ap, ◌∙◌, arith, ints, cases_lt, cases_Bool, or_left, common_steps}
+use Rattle.fixed_worth.proofs.Common.{◌≡◌, ◌≢◌, ℕ, zero, suc, ◌+◌, ◌<◌, ℤ, pos, ◌+ℤ◌, Bool, true, false, cond, not}
+use Rattle.fixed_worth.proofs.Common.{◌&&◌, ◌||◌, IsTrue, inl, inr, sym, refl, ap, ◌∙◌, arith, ints, cases_lt}
+use Rattle.fixed_worth.proofs.Common.{cases_Bool, or_left, common_steps}
 use Rattle.ordered_group.specs.Sets.{worth_in, count_in}
 use Rattle.ordered_group.proofs.BlockSets.{worth_in-same, count_in-same, count_in-within}
 use Rattle.closure_net.specs.Mine.{Mine, IsPit, worth_of, block_count_of, IsBest, RestsWithin}
@@ -68,7 +70,8 @@ count_else : (s t : Bool) → t ≡ false → number (s && t) ≡ 0
 count_else s t h = grind (arith, common_steps)
 
 -- and how many they are
-pub count_listed : (set e : ℕ → Bool) (at : ℕ → ℕ) (n m : ℕ) → IsListed set n m at → count_in (intersection_of e set) n ≡ count_in (λ i. e (at i)) m
+pub count_listed : (set e : ℕ → Bool) (at : ℕ → ℕ) (n m : ℕ) → IsListed set n m at
+    → count_in (intersection_of e set) n ≡ count_in (λ i. e (at i)) m
 count_listed set e at zero zero h = refl
 count_listed set e at zero (suc m) h = absurd (let l = h.below m (omega arith) in omega (arith, l))
 count_listed set e at (suc n) m h =
@@ -89,7 +92,8 @@ worth_in-worths v w e (suc n) h = rw (worth_in-worths v w e n (λ b l. h b (omeg
 
 -- ---- pits there and here
 
-module _ (mine small : Mine) (set : ℕ → Bool) (at : ℕ → ℕ) (own : RestsWithin mine) (listed : IsListed set mine.blocks small.blocks at) (is : IsRenumbered mine small at) where
+module _ (mine small : Mine) (set : ℕ → Bool) (at : ℕ → ℕ) (own : RestsWithin mine)
+    (listed : IsListed set mine.blocks small.blocks at) (is : IsRenumbered mine small at) where
   pulled_is_pit : (d : ℕ → Bool) → IsPit (part mine set) d → IsPit small (λ i. d (at i))
   pulled_is_pit d h i j r t = grind (arith, common_steps)
 
@@ -102,13 +106,16 @@ module _ (mine small : Mine) (set : ℕ → Bool) (at : ℕ → ℕ) (own : Rest
   image_is_pit s t im h b p r held = grind (arith, common_steps)
 
   -- the image of a set, in numbers
-  image_worth : (s t : ℕ → Bool) → IsImage mine.blocks small.blocks at s t → worth_of (part mine set) t ≡ worth_of small s
+  image_worth : (s t : ℕ → Bool) → IsImage mine.blocks small.blocks at s t
+      → worth_of (part mine set) t ≡ worth_of small s
   image_worth s t im = pulled_worth t ∙ worth_in-same small.worth (λ i. t (at i)) s small.blocks im.same
 
-  pub image_within : (s t : ℕ → Bool) → IsImage mine.blocks small.blocks at s t → (b : ℕ) → b < mine.blocks → IsTrue (t b) → IsTrue (set b)
+  pub image_within : (s t : ℕ → Bool) → IsImage mine.blocks small.blocks at s t → (b : ℕ) → b < mine.blocks
+      → IsTrue (t b) → IsTrue (set b)
   image_within s t im b l e = let x = im.only b l e in ap set (sym x.2) ∙ listed.held x.0 x.1
 
-  pub image_count : (s t : ℕ → Bool) → IsImage mine.blocks small.blocks at s t → count_in t mine.blocks ≡ count_in s small.blocks
+  pub image_count : (s t : ℕ → Bool) → IsImage mine.blocks small.blocks at s t
+      → count_in t mine.blocks ≡ count_in s small.blocks
   image_count s t im =
       count_in-same t (intersection_of t set) mine.blocks (λ b l. own_in (t b) (set b) (image_within s t im b l))
       ∙ count_listed set t at mine.blocks small.blocks listed
@@ -118,7 +125,8 @@ module _ (mine small : Mine) (set : ℕ → Bool) (at : ℕ → ℕ) (own : Rest
       own_in true y h = sym (h refl)
       own_in false y h = refl
 
-  pub best_image : (s t : ℕ → Bool) → IsImage mine.blocks small.blocks at s t → IsBest small s → IsBest (part mine set) t
+  pub best_image : (s t : ℕ → Bool) → IsImage mine.blocks small.blocks at s t → IsBest small s
+      → IsBest (part mine set) t
   best_image s t im h =
       let n = mine.blocks in
       let m = small.blocks in
@@ -140,24 +148,38 @@ outside low high b h = not_beside (high b) (low b) h
 alone_term : (x y : Bool) → (y ≡ true → x ≡ false) → ((x || y) && not x) ≡ y
 alone_term x y h = grind (arith, common_steps)
 
-cut_term : (x y z : Bool) (v : ℤ) → (y ≡ true → (z && not x) ≡ true) → cond (x || y) v (pos 0) ≡ cond x v (pos 0) +ℤ cond y (cond (z && not x) v (pos 0)) (pos 0)
+cut_term : (x y z : Bool) (v : ℤ) → (y ≡ true → (z && not x) ≡ true)
+    → cond (x || y) v (pos 0) ≡ cond x v (pos 0) +ℤ cond y (cond (z && not x) v (pos 0)) (pos 0)
 cut_term x y z v h = grind (arith, common_steps)
 
-joined_worth : (v : ℕ → ℤ) (low high t : ℕ → Bool) (n : ℕ) → ((b : ℕ) → b < n → t b ≡ true → difference_of high low b ≡ true)
-    → worth_in v (union_of low t) n ≡ worth_in v low n +ℤ worth_in (λ b. cond (difference_of high low b) (v b) (pos 0)) t n
+joined_worth : (v : ℕ → ℤ) (low high t : ℕ → Bool) (n : ℕ)
+    → ((b : ℕ) → b < n → t b ≡ true → difference_of high low b ≡ true)
+    → worth_in v (union_of low t) n ≡ worth_in v low n +ℤ worth_in
+    (λ b. cond (difference_of high low b) (v b) (pos 0)) t n
 joined_worth v low high t zero h = omega (arith, ints)
-joined_worth v low high t (suc n) h = omega (arith, ints, joined_worth v low high t n (λ b l. h b (omega (arith, l))), cut_term (low n) (t n) (high n) (v n) (h n (omega arith)))
+joined_worth v low high t (suc n) h = omega (
+  arith,
+  ints,
+  joined_worth v low high t n (λ b l. h b (omega (arith, l))),
+  cut_term (low n) (t n) (high n) (v n)
+      (h n (omega arith)),
+)
 
-pub row_by_small : (mine small : Mine) (low high : ℕ → Bool) (at : ℕ → ℕ) (s t : ℕ → Bool) → RestsWithin mine → IsListed (difference_of high low) mine.blocks small.blocks at → IsRenumbered mine small at
+pub row_by_small : (mine small : Mine) (low high : ℕ → Bool) (at : ℕ → ℕ) (s t : ℕ → Bool) → RestsWithin mine
+    → IsListed (difference_of high low) mine.blocks small.blocks at → IsRenumbered mine small at
     → IsImage mine.blocks small.blocks at s t
-    → (worth_of mine (union_of low t) ≡ worth_of mine low +ℤ worth_of small s) × (block_count_of mine (union_of low t) ≡ block_count_of mine low + block_count_of small s)
+    → (worth_of mine (union_of low t) ≡ worth_of mine low +ℤ worth_of small s)
+    × (block_count_of mine (union_of low t) ≡ block_count_of mine low + block_count_of small s)
 row_by_small mine small low high at s t own listed is im =
     let n = mine.blocks in
     let set = difference_of high low in
     let within = image_within mine small set at own listed is s t im in
-    let apart : (b : ℕ) → b < n → ((low b || t b) && not (low b)) ≡ t b = λ b l. alone_term (low b) (t b) (λ e. outside low high b (within b l e)) in
+    let apart : (b : ℕ) → b < n → ((low b || t b) && not (low b)) ≡ t b = λ b l. alone_term (low b) (t b)
+    (λ e. outside low high b (within b l e)) in
     let count = count_cuts low (union_of low t) n (λ b l e. or_left (low b) (t b) e) in
-    let alone : count_in (difference_of (union_of low t) low) n ≡ count_in t n = count_in-same (difference_of (union_of low t) low) t n apart in (
-      joined_worth mine.worth low high t n within ∙ ap (λ z. worth_of mine low +ℤ z) (image_worth mine small set at own listed is s t im),
+    let alone : count_in (difference_of (union_of low t) low) n ≡ count_in t n = count_in-same
+    (difference_of (union_of low t) low) t n apart in (
+      joined_worth mine.worth low high t n within
+          ∙ ap (λ z. worth_of mine low +ℤ z) (image_worth mine small set at own listed is s t im),
       omega (arith, count, alone, image_count mine small set at own listed is s t im),
     )

@@ -33,4 +33,5 @@ pub record IsKept (set : ℕ → Bool) (n : ℕ) (kept : List ℕ) : Type 0 wher
 -- The pairs of which both blocks are in the list, each block by its place in it.
 pub record IsPartPairs (kept : List ℕ) (pairs less : List (ℕ × ℕ)) : Type 0 where
   pub known : (i j : ℕ) → Contains less (i, j) → (i < length kept) × (j < length kept)
-  pub same : (i j : ℕ) → i < length kept → j < length kept → Contains less (i, j) ↔ Contains pairs (number_in kept i, number_in kept j)
+  pub same : (i j : ℕ) → i < length kept → j < length kept
+      → Contains less (i, j) ↔ Contains pairs (number_in kept i, number_in kept j)

@@ -29,7 +29,11 @@ impl<'a> Model for AmongGrid<'a> {
 
     ghost view = { λ a. record { grid = a.grid.now; kept = a.kept.now; places = a.places.items } };
 
-    ghost invariant = { λ a. AreAmong (record { grid = a.grid.now; kept = a.kept.now; places = a.places.items }) };
+    ghost invariant = { λ a. AreAmong (record {
+      grid = a.grid.now;
+      kept = a.kept.now;
+      places = a.places.items;
+    }) };
 }
 
 // The place of a block, of one more than it, if it is kept.

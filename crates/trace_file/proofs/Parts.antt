@@ -1,10 +1,12 @@
 -- A text is cut at its line feeds, and a line at its spaces.
-use Rattle.fixed_worth.proofs.Common.{◌≡◌, ℕ, ◌<◌, Bool, true, false, cond, not, eqb, List, [], ◌∷◌, ◌++◌, length, Some, None, refl, ap, ◌∙◌, arith, list_all, onto_first, not-true, and_parts, nat_tests, common_steps}
+use Rattle.fixed_worth.proofs.Common.{◌≡◌, ℕ, ◌<◌, Bool, true, false, cond, not, eqb, List, [], ◌∷◌, ◌++◌, length, Some}
+use Rattle.fixed_worth.proofs.Common.{None, refl, ap, ◌∙◌, arith, list_all, onto_first, not-true, and_parts, nat_tests}
+use Rattle.fixed_worth.proofs.Common.{common_steps}
 use Rattle.fixed_worth.specs.Prelude.{is_digit, parts, with_line_feeds}
 use Rattle.fixed_worth.proofs.Joined.{is_one_line}
 use Rattle.fixed_worth.proofs.Parts.{some_part}
 use Rattle.trace_file.specs.declared.trace_fault.TraceFault.TheVariants.{Text}
-use Rattle.trace_file.specs.Prelude.{event_of_words, end_fault}
+use Rattle.trace_file.specs.Prelude.{event_of_words, trace_end_fault}
 
 -- A line, its line feed, and what follows.
 pub line_cut : (line rest : List ℕ) → is_one_line line ≡ true → parts 10 (line ++ (10 ∷ rest)) ≡ line ∷ parts 10 rest
@@ -15,7 +17,8 @@ line_cut (b ∷ bs) rest h =
     rw e (ap (onto_first b) (line_cut bs rest q.1))
 
 -- Lines with a line feed after each are the parts of their text, and after the last there is nothing.
-pub lines_cut : (lines : List (List ℕ)) → list_all is_one_line lines ≡ true → parts 10 (with_line_feeds lines) ≡ lines ++ ([] ∷ [])
+pub lines_cut : (lines : List (List ℕ)) → list_all is_one_line lines ≡ true
+    → parts 10 (with_line_feeds lines) ≡ lines ++ ([] ∷ [])
 lines_cut [] h = refl
 lines_cut (line ∷ lines) h =
     let q = and_parts (is_one_line line) (list_all is_one_line lines) h in
@@ -34,19 +37,20 @@ digits_alone (d ∷ ds) h =
 
 -- ---- what stands after END, and after a word
 
-pub some_behind : (k : ℕ) (bs : List ℕ) → eqb (length bs) 0 ≡ false → Some (Text k) ≡ end_fault k (parts 10 bs)
-some_behind k [] h = absurd (grind (arith, nat_tests))
-some_behind k (b ∷ bs) h = some_by k b (eqb b 10) (parts 10 bs) (some_part 10 bs)
+pub some_after : (k : ℕ) (bs : List ℕ) → eqb (length bs) 0 ≡ false → Some (Text k) ≡ trace_end_fault k (parts 10 bs)
+some_after k [] h = absurd (grind (arith, nat_tests))
+some_after k (b ∷ bs) h = some_by k b (eqb b 10) (parts 10 bs) (some_part 10 bs)
   where
-    onto : (k b : ℕ) (ps : List (List ℕ)) → Some (Text k) ≡ end_fault k (onto_first b ps)
+    onto : (k b : ℕ) (ps : List (List ℕ)) → Some (Text k) ≡ trace_end_fault k (onto_first b ps)
     onto k b [] = refl
     onto k b (p ∷ ps) = refl
 
-    two : (k : ℕ) (ps : List (List ℕ)) → 0 < length ps → Some (Text k) ≡ end_fault k ([] ∷ ps)
+    two : (k : ℕ) (ps : List (List ℕ)) → 0 < length ps → Some (Text k) ≡ trace_end_fault k ([] ∷ ps)
     two k [] l = absurd (omega arith)
     two k (p ∷ ps) l = refl
 
-    some_by : (k b : ℕ) (t : Bool) (ps : List (List ℕ)) → 0 < length ps → Some (Text k) ≡ end_fault k (cond t ([] ∷ ps) (onto_first b ps))
+    some_by : (k b : ℕ) (t : Bool) (ps : List (List ℕ)) → 0 < length ps
+        → Some (Text k) ≡ trace_end_fault k (cond t ([] ∷ ps) (onto_first b ps))
     some_by k b true ps l = two k ps l
     some_by k b false ps l = onto k b ps
 
@@ -54,5 +58,7 @@ three : (a b : List ℕ) (ps : List (List ℕ)) → 0 < length ps → event_of_w
 three a b [] l = absurd (omega arith)
 three a b (p ∷ ps) l = refl
 
-pub three_words : (line first second third fourth : List ℕ) → parts 32 line ≡ first ∷ parts 32 second → parts 32 second ≡ third ∷ parts 32 fourth → event_of_words (parts 32 line) ≡ None
-three_words line first second third fourth e f = ap event_of_words (e ∙ ap (λ (ws : List (List ℕ)). first ∷ ws) f) ∙ three first third (parts 32 fourth) (some_part 32 fourth)
+pub three_words : (line first second third fourth : List ℕ) → parts 32 line ≡ first ∷ parts 32 second
+    → parts 32 second ≡ third ∷ parts 32 fourth → event_of_words (parts 32 line) ≡ None
+three_words line first second third fourth e f = ap event_of_words (e ∙ ap (λ (ws : List (List ℕ)). first ∷ ws) f)
+    ∙ three first third (parts 32 fourth) (some_part 32 fourth)

@@ -21,43 +21,46 @@ abbrev pub rest_fault : ℕ → List ℕ → TraceFault
 rest_fault k rest = cond (nat_lt LINE_BYTES (length rest)) (Text k) Truncated
 
 -- after END and its line feed nothing may stand; what stands there is line k
-abbrev pub end_fault : ℕ → List (List ℕ) → Option TraceFault
-end_fault k ([] ∷ []) = None
-end_fault k _ = Some (Text k)
+abbrev pub trace_end_fault : ℕ → List (List ℕ) → Option TraceFault
+trace_end_fault k ([] ∷ []) = None
+trace_end_fault k _ = Some (Text k)
 
 -- the fault of line k + 1 as event number k, or else of what stands after it
 abbrev pub event_fault : ℕ → Option Event → Option TraceFault → Option TraceFault
-event_fault k None behind = Some (Text (k + 1))
-event_fault k (Some e) behind = cond (nat_lt MOST_EVENTS k) (Some TooMany) behind
+event_fault k None past = Some (Text (k + 1))
+event_fault k (Some e) past = cond (nat_lt MOST_EVENTS k) (Some TooMany) past
 
 -- the fault of line k + 1, which is END or event number k, or else of what stands after it
-abbrev pub line_fault : ℕ → List ℕ → List (List ℕ) → Option TraceFault → Option TraceFault
-line_fault k line after behind = cond (bytes_eq line (codes "END")) (end_fault (k + 2) after) (event_fault k (event_of line) behind)
+abbrev pub trace_line_fault : ℕ → List ℕ → List (List ℕ) → Option TraceFault → Option TraceFault
+trace_line_fault k line after past = cond (bytes_eq line (codes "END")) (trace_end_fault (k + 2) after)
+    (event_fault k (event_of line) past)
 
 -- the first fault after k lines, of which the first is the head of the trace and the others are events
-abbrev pub fault_behind : ℕ → List (List ℕ) → Option TraceFault
-fault_behind k [] = Some Truncated
-fault_behind k (rest ∷ []) = Some (rest_fault (k + 1) rest)
-fault_behind k (line ∷ next ∷ more) = line_fault k line (next ∷ more) (fault_behind (k + 1) (next ∷ more))
+abbrev pub trace_fault_after : ℕ → List (List ℕ) → Option TraceFault
+trace_fault_after k [] = Some Truncated
+trace_fault_after k (rest ∷ []) = Some (rest_fault (k + 1) rest)
+trace_fault_after k (line ∷ next ∷ more) = trace_line_fault k line (next ∷ more)
+    (trace_fault_after (k + 1) (next ∷ more))
 
 -- the first fault of the parts of a text between its line feeds
 abbrev pub fault_in : List (List ℕ) → Option TraceFault
 fault_in [] = Some Truncated
 fault_in (rest ∷ []) = Some (rest_fault 1 rest)
-fault_in (line ∷ next ∷ more) = cond (bytes_eq line (codes "PITTRACE 1")) (fault_behind 1 (next ∷ more)) (Some (Text 1))
+fault_in (line ∷ next ∷ more) = cond (bytes_eq line (codes "PITTRACE 1")) (trace_fault_after 1 (next ∷ more))
+    (Some (Text 1))
 
 -- the first fault of a text, line by line
-abbrev pub fault_of : List ℕ → Option TraceFault
-fault_of text = fault_in (parts 10 text)
+abbrev pub trace_fault_of : List ℕ → Option TraceFault
+trace_fault_of text = fault_in (parts 10 text)
 
 -- want of memory says nothing of the text
-abbrev pub UnlessMemory : TraceFault → Type 0 → Type 0
-UnlessMemory NoMemory P = Unit {0}
-UnlessMemory _ P = P
+abbrev pub UnlessTraceMemory : TraceFault → Type 0 → Type 0
+UnlessTraceMemory NoMemory P = Unit {0}
+UnlessTraceMemory _ P = P
 
 -- the fault's name, and the line's number in parentheses where there is one
-abbrev pub fault_text : TraceFault → List ℕ
-fault_text (Text k) = at_line (codes "Text") k
-fault_text Truncated = codes "Truncated"
-fault_text TooMany = codes "TooMany"
-fault_text NoMemory = codes "NoMemory"
+abbrev pub trace_fault_text : TraceFault → List ℕ
+trace_fault_text (Text k) = at_line (codes "Text") k
+trace_fault_text Truncated = codes "Truncated"
+trace_fault_text TooMany = codes "TooMany"
+trace_fault_text NoMemory = codes "NoMemory"

@@ -1,14 +1,15 @@
 //! Reads a line of a trace as a step of a run, and writes a step as its line.
 
 ghost use Rattle.std.specs.Prelude.{◌≡◌, ◌+◌, ◌-◌, ◌<◌, ◌^◌, ◌∷◌, [], ◌++◌, None, MatchOption, OnOk, OnErr};
-ghost use Rattle.fixed_worth.specs.Device.{ReceivedPrefix, SentOrHeld};
+ghost use Rattle.counted_devices.specs.Device.{ReceivedPrefix, SentOrHeld};
 ghost use Rattle.fixed_worth.specs.Text.{parts};
 ghost use Rattle.trace_file.specs.Lines as spec;
 ghost use Rattle.trace_file.specs.Lines.{event_of_words};
 ghost use Rattle.trace_file.specs.Written as written;
 ghost use Rattle.trace_file.specs.Written.{event_line};
 
-use fixed_worth::{CountedWrite, Page, WriteFault, WrittenNumber, cut_at, plain_signed};
+use counted_devices::{CountedWrite, Page, WriteFault};
+use fixed_worth::{WrittenNumber, cut_at, plain_signed};
 use machine_law::{Event, Kind};
 
 const READ_EXCESS: &[u8] = b"RE";

@@ -3,7 +3,7 @@
 ghost use Rattle.std.specs.Prelude.{◌≡◌, [], Some, None, MatchResult};
 ghost use Rattle.fixed_worth.specs.Text.{parts};
 ghost use Rattle.trace_file.specs.Faults as spec;
-ghost use Rattle.trace_file.specs.Faults.{UnlessMemory, events_of, fault_behind, fault_of};
+ghost use Rattle.trace_file.specs.Faults.{UnlessTraceMemory, events_of, trace_fault_after, trace_fault_of};
 ghost use Rattle.trace_file.specs.ReadBack.{IsWritten};
 
 use crate::event_line::event_in;
@@ -30,10 +30,10 @@ fn rest_fault(number: u64, rest: &[u8]) -> TraceFault
 }
 
 // Nothing may stand after the last line: what does is the line of this number.
-fn end_fault(number: u64, behind: &[u8]) -> Option<TraceFault>
-    ensures { result ≡ spec.end_fault number (parts 10 behind.now) }
+fn end_fault(number: u64, past: &[u8]) -> Option<TraceFault>
+    ensures { result ≡ spec.trace_end_fault number (parts 10 past.now) }
 {
-    if behind.is_empty() {
+    if past.is_empty() {
         None
     } else {
         Some(TraceFault::Text(number))
@@ -41,15 +41,15 @@ fn end_fault(number: u64, behind: &[u8]) -> Option<TraceFault>
 }
 
 // What stands after the first line.
-fn behind_head<'a>(text: &'a [u8]) -> Result<&'a [u8], TraceFault>
+fn after_head<'a>(text: &'a [u8]) -> Result<&'a [u8], TraceFault>
     ensures { MatchResult result
-        (λ behind. (fault_of text.now ≡ fault_behind 1 (parts 10 behind.now))
-        × (events_of text.now ≡ events_of behind.now))
-        (λ e. fault_of text.now ≡ Some e) }
+        (λ past. (trace_fault_of text.now ≡ trace_fault_after 1 (parts 10 past.now))
+        × (events_of text.now ≡ events_of past.now))
+        (λ e. trace_fault_of text.now ≡ Some e) }
 {
     match cut_at(LINE_FEED, text) {
-        Some((line, behind)) => if line == HEAD {
-            Ok(behind)
+        Some((line, past)) => if line == HEAD {
+            Ok(past)
         } else {
             Err(TraceFault::Text(1))
         },
@@ -68,21 +68,21 @@ fn behind_head<'a>(text: &'a [u8]) -> Result<&'a [u8], TraceFault>
 /// refused, and not where no line says an event.
 pub fn read_trace(alloc: Global, text: &[u8]) -> Result<Vec<Event>, TraceFault>
     ensures { MatchResult result
-        (λ events. (fault_of text.now ≡ None) × (events.items ≡ events_of text.now)
+        (λ events. (trace_fault_of text.now ≡ None) × (events.items ≡ events_of text.now)
         × IsWritten text.now events.items)
-        (λ e. UnlessMemory e (fault_of text.now ≡ Some e)
-        × (events_of text.now ≡ [] → fault_of text.now ≡ Some e)) }
+        (λ e. UnlessTraceMemory e (trace_fault_of text.now ≡ Some e)
+        × (events_of text.now ≡ [] → trace_fault_of text.now ≡ Some e)) }
 {
-    let mut left = behind_head(text)?;
+    let mut left = after_head(text)?;
     let mut events = Vec::new(alloc);
     loop {
         let number = events.len() as u64 + 2;
-        let (line, behind) = match cut_at(LINE_FEED, left) {
+        let (line, past) = match cut_at(LINE_FEED, left) {
             Some(cut) => cut,
             None => return Err(rest_fault(number, left)),
         };
         if line == END {
-            return match end_fault(number + 1, behind) {
+            return match end_fault(number + 1, past) {
                 Some(fault) => Err(fault),
                 None => Ok(events),
             };
@@ -97,6 +97,6 @@ pub fn read_trace(alloc: Global, text: &[u8]) -> Result<Vec<Event>, TraceFault>
         if events.push(event).is_err() {
             return Err(TraceFault::NoMemory);
         }
-        left = behind;
+        left = past;
     }
 }

@@ -1,7 +1,7 @@
 //! Why a text is no trace, with the number of its first faulty line, and how each fault is printed.
 
 ghost use Rattle.std.specs.Prelude.{Some};
-ghost use Rattle.trace_file.specs.Faults.{fault_text};
+ghost use Rattle.trace_file.specs.Faults.{trace_fault_text};
 
 use std::fmt;
 
@@ -19,7 +19,7 @@ pub enum TraceFault {
 }
 
 impl fmt::Display for TraceFault {
-    ghost output = { λ fault. Some (fault_text fault) };
+    ghost output = { λ fault. Some (trace_fault_text fault) };
 
     fn fmt<W: fmt::Write>(&self, f: &mut fmt::Formatter<W>) -> fmt::Result {
         match self {

@@ -2,12 +2,13 @@
 
 ghost use Rattle.std.specs.Prelude.{◌≡◌, ◌+◌, ◌-◌, ◌^◌, ◌<◌, ◌≤◌, length, OnOk, OnErr};
 ghost use Rattle.std.specs.Io.KnownBytes.{Appends};
-ghost use Rattle.fixed_worth.specs.Device.{ReceivedPrefix};
-ghost use Rattle.trace_file.specs.ReadBack.{IsReadBack};
+ghost use Rattle.counted_devices.specs.Device.{ReceivedPrefix};
+ghost use Rattle.trace_file.specs.ReadBack.{IsTraceReadBack};
 ghost use Rattle.trace_file.specs.Written.{trace_text};
 
 use crate::event_line::put_event;
-use fixed_worth::{CountedWrite, Page, WriteFault, WrittenNumber};
+use counted_devices::{CountedWrite, Page, WriteFault};
+use fixed_worth::WrittenNumber;
 use machine_law::{Event, MOST_EVENTS};
 
 /// Writes a trace. It takes no memory, and sends the text in large pieces. [`crate::read_trace`] reads
@@ -22,7 +23,7 @@ pub fn write_trace<W: CountedWrite>(events: &[Event], out: &mut W) -> Result<(),
     requires room { W.failed out.old < 2 ^ 64 - 1 }
     ensures sent { OnOk result
         (Appends (W.contents out.old) (W.contents out.new) (trace_text events.now)) }
-    ensures read_back { OnOk result (IsReadBack (trace_text events.now) events.now) }
+    ensures read_back { OnOk result (IsTraceReadBack (trace_text events.now) events.now) }
     ensures kept { OnOk result (W.failed out.new ≡ W.failed out.old) }
     ensures prefix { OnErr result
         (ReceivedPrefix (W.contents out.old) (W.contents out.new) (trace_text events.now)) }

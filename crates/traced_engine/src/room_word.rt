@@ -3,7 +3,7 @@
 ghost use Rattle.std.specs.Prelude.{◌≡◌};
 ghost use Rattle.traced_engine.specs.RoomWord.{room_of};
 
-use engines::whole_within;
+use option_words::whole_within;
 use trace_file::MOST_EVENTS;
 
 /// The room that a word names: a whole number of steps from 1 to 2^24.

@@ -1,7 +1,7 @@
 //! What is asked for where a mine is solved with a trace: the factor, the kind of amounts, the
 //! effort and the most steps of the trace.
 
-use engines::Effort;
+use option_words::Effort;
 use ordered_group::Group;
 use shells::Factor;
 

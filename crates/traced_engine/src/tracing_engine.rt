@@ -4,7 +4,7 @@
 ghost use Rattle.std.specs.Prelude.{◌≡◌, ◌+◌, ◌-◌, ◌^◌, ◌<◌, IsErrOf};
 ghost use Rattle.certificate_file.specs.ReadBack.{IsPrice};
 ghost use Rattle.mine_inputs.specs.ReadMines.{AreRead};
-ghost use Rattle.engines.specs.Readings.{IsGroupNamed};
+ghost use Rattle.check_engines.specs.Readings.{IsGroupNamed};
 ghost use Rattle.mine_inputs.specs.MineInputs.{ForTexts, CanCount, NoneFailed, OneFailed};
 ghost use Rattle.mine_inputs.specs.Mines.{MineTexts, price_wanted};
 ghost use Rattle.traced_engine.specs.TracedRuns.{Traces};
@@ -12,11 +12,13 @@ ghost use Rattle.traced_engine.specs.TracedRuns.{Traces};
 use crate::traced_asked::TracedAsked;
 use crate::traced_outputs::TracedOutputs;
 use crate::traced_run::{RunAsked, trace_net};
+use check_engines::Verdict;
 use closure_net::{Net, laws};
-use engines::{EngineFault, MineInputs, Outcome, Verdict};
-use fixed_worth::{CountedRead, CountedWrite};
-use mine_inputs::{MineToSolve, mine_to_solve};
+use counted_devices::{CountedRead, CountedWrite};
+use engine_faults::EngineFault;
+use mine_inputs::{MineInputs, MineToSolve, mine_to_solve};
 use ordered_group::{Group, OrderedGroup, Scaled, Worth, WorthSize};
+use solve_engines::Outcome;
 use std::alloc::Global;
 use std::sync::Wait;
 use std::thread::Threads;
@@ -29,7 +31,7 @@ use workers::{Audited, Gate, Locked, Shared};
 /// in their order, at most as many as there is room for and never more than 2^24. It is written right after the run and
 /// before anything is written to `outputs.out`.
 ///
-/// `Done` where it wrote a certificate, as `engines::solve_engine` says; its flow is the one to which a replay of the
+/// `Done` where it wrote a certificate, as `solve_engine` says; its flow is the one to which a replay of the
 /// trace leads. `No` where it wrote a line that says why there is none:
 ///
 /// - `UNSETTLED`: the trace has as many steps as the effort allows, and some block still has excess or an operation;

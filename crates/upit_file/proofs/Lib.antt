@@ -6,3 +6,5 @@ pub mod LineFeeds
 pub mod ReadBack
 pub mod BodyBack
 pub mod HeaderBack
+pub mod PartLines
+pub mod PartProgress

@@ -1,5 +1,6 @@
 -- The records after the header: a block and its value each.
-use Rattle.std.specs.Prelude.{ℕ, ℤ, pos, ◌&&◌, Bool, cond, List, [], ◌∷◌, ◌++◌, drop, nat_le, Option, Some, None, is_some, unwrap_or, ◌≡◌, true, false, IsTrue}
+use Rattle.std.specs.Prelude.{ℕ, ℤ, pos, ◌&&◌, Bool, cond, List, [], ◌∷◌, ◌++◌, drop, nat_le, Option, Some, None}
+use Rattle.std.specs.Prelude.{is_some, unwrap_or, ◌≡◌, true, false, IsTrue}
 use Rattle.std.specs.Option.{option_or}
 use Rattle.std.specs.List.{list_any}
 pub use Rattle.fixed_worth.specs.Decimal.{value_read}
@@ -17,25 +18,27 @@ value_of_record (block ∷ []) = pos 0
 value_of_record (block ∷ value ∷ fields) = unwrap_or (value_read value) (pos 0)
 
 -- What is wrong with a record by itself.
-abbrev pub shape_fault : ℕ → List (List ℕ) → Option UpitFault
-shape_fault line (block ∷ value ∷ []) = cond (reads block && is_some (value_read value)) None (Some (Number line))
-shape_fault line _ = Some (Text line)
+abbrev pub upit_shape_fault : ℕ → List (List ℕ) → Option UpitFault
+upit_shape_fault line (block ∷ value ∷ []) = cond (reads block && is_some (value_read value)) None (Some (Number line))
+upit_shape_fault line _ = Some (Text line)
 
 -- What is wrong with a record for this block, where these had records before.
-abbrev pub block_fault : ℕ → (ℕ → Bool) → ℕ → ℕ → Option UpitFault
-block_fault n had line block = cond (nat_le n block) (Some (UnknownBlock line)) (cond (had block) (Some (Repeated line)) None)
+abbrev pub upit_block_fault : ℕ → (ℕ → Bool) → ℕ → ℕ → Option UpitFault
+upit_block_fault n had line block = cond (nat_le n block) (Some (UnknownBlock line))
+    (cond (had block) (Some (Repeated line)) None)
 
 -- What is wrong with the fields of a line, where these blocks had records before.
-abbrev pub record_fault : ℕ → (ℕ → Bool) → ℕ → List (List ℕ) → Option UpitFault
-record_fault n had line fields = cond (is_skipped fields) None (option_or (shape_fault line fields) (block_fault n had line (block_of fields)))
+abbrev pub upit_record_fault : ℕ → (ℕ → Bool) → ℕ → List (List ℕ) → Option UpitFault
+upit_record_fault n had line fields = cond (is_skipped fields) None
+    (option_or (upit_shape_fault line fields) (upit_block_fault n had line (block_of fields)))
 
 -- What is wrong with a line, where these blocks had records before.
-abbrev pub line_fault : ℕ → (ℕ → Bool) → Line → Option UpitFault
-line_fault n had l = cond (is_long l) (Some (Text l.number)) (record_fault n had l.number (fields_in l))
+abbrev pub upit_line_fault : ℕ → (ℕ → Bool) → Line → Option UpitFault
+upit_line_fault n had l = cond (is_long l) (Some (Text l.number)) (upit_record_fault n had l.number (fields_in l))
 
 -- A record of block b is among the lines.
-abbrev pub has_record : List Line → ℕ → Bool
-has_record ls b = list_any (λ l. is_record_of b (fields_in l)) ls
+abbrev pub has_value_record : List Line → ℕ → Bool
+has_value_record ls b = list_any (λ l. is_record_of b (fields_in l)) ls
 
 -- The value of block b: that of its first record, and 0 where it has none.
 abbrev pub value_among : List Line → ℕ → ℤ
@@ -43,9 +46,10 @@ value_among [] b = pos 0
 value_among (l ∷ ls) b = cond (is_record_of b (fields_in l)) (value_of_record (fields_in l)) (value_among ls b)
 
 -- The fault of the first faulty line, if any, after these lines.
-abbrev pub first_fault : ℕ → List Line → List Line → Option UpitFault
-first_fault n before [] = None
-first_fault n before (l ∷ ls) = option_or (line_fault n (has_record before) l) (first_fault n (before ++ l ∷ []) ls)
+abbrev pub first_upit_fault : ℕ → List Line → List Line → Option UpitFault
+first_upit_fault n before [] = None
+first_upit_fault n before (l ∷ ls) = option_or (upit_line_fault n (has_value_record before) l)
+    (first_upit_fault n (before ++ l ∷ []) ls)
 
 -- The lines before the one that ends the text.
 abbrev pub before_end : List Line → List Line
@@ -60,4 +64,5 @@ body ls = before_end (drop 1 (after_header ls))
 abbrev pub IsRecord : ℕ → List (List ℕ) → Record → Type 0
 IsRecord line fields Skipped = (is_skipped fields ≡ true) × (is_eof fields ≡ false)
 IsRecord line fields End = IsTrue (is_eof fields)
-IsRecord line fields (Value block value) = (is_skipped fields ≡ false) × (is_eof fields ≡ false) × (shape_fault line fields ≡ None) × (block ≡ block_of fields) × (value ≡ value_of_record fields)
+IsRecord line fields (Value block value) = (is_skipped fields ≡ false) × (is_eof fields ≡ false)
+    × (upit_shape_fault line fields ≡ None) × (block ≡ block_of fields) × (value ≡ value_of_record fields)

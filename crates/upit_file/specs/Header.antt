@@ -1,5 +1,6 @@
 -- The header of a text: where it ends, what it declares, and what is wrong with it.
-use Rattle.std.specs.Prelude.{ℕ, ◌+◌, ◌==◌, ◌||◌, Bool, true, false, not, cond, List, [], ◌∷◌, length, drop, take, nat_lt, Option, Some, None, is_some, codes}
+use Rattle.std.specs.Prelude.{ℕ, ◌+◌, ◌==◌, ◌||◌, Bool, true, false, not, cond, List, [], ◌∷◌, length, drop, take}
+use Rattle.std.specs.Prelude.{nat_lt, Option, Some, None, is_some, codes}
 use Rattle.std.specs.Option.{option_or}
 use Rattle.std.specs.Str.{bytes_eq}
 use Rattle.fixed_worth.specs.declared.limits.TheConstants.{MOST_BLOCKS, LINE_BYTES}
@@ -70,14 +71,14 @@ abbrev pub name_in : List ℕ → List ℕ
 name_in line = from_second line (runs_from 0 line)
 
 -- The name after a line with this key: a NAME record gives it, and any other line leaves it.
-abbrev pub name_behind : List ℕ → Key → List ℕ → List ℕ
-name_behind name Name line = name_in line
-name_behind name _ line = name
+abbrev pub name_after : List ℕ → Key → List ℕ → List ℕ
+name_after name Name line = name_in line
+name_after name _ line = name
 
 -- The name that the last NAME record of these lines gives, and the name before them where there is none.
 abbrev pub last_name : List ℕ → List Line → List ℕ
 last_name name [] = name
-last_name name (l ∷ ls) = last_name (name_behind name (key_in (fields_in l)) l.text) ls
+last_name name (l ∷ ls) = last_name (name_after name (key_in (fields_in l)) l.text) ls
 
 -- The number of blocks that an NBLOCKS record names; 0 where it names none.
 abbrev pub nblocks_of : List (List ℕ) → ℕ
@@ -136,10 +137,11 @@ last_fault counted line End = Some (NoObjective line)
 last_fault counted line _ = cond counted None (Some (WrongBlocks line))
 
 -- What is wrong where the header ends: these lines are left, so many lines are in the text, and NBLOCKS came or not.
-abbrev pub end_fault : Bool → ℕ → List Line → Option UpitFault
-end_fault counted count [] = Some (NoObjective count)
-end_fault counted count (l ∷ ls) = last_fault counted l.number (key_in (fields_in l))
+abbrev pub upit_end_fault : Bool → ℕ → List Line → Option UpitFault
+upit_end_fault counted count [] = Some (NoObjective count)
+upit_end_fault counted count (l ∷ ls) = last_fault counted l.number (key_in (fields_in l))
 
 -- The first fault of the header where n blocks are wanted.
 abbrev pub header_fault : ℕ → List Line → Option UpitFault
-header_fault n ls = option_or (header_lines_fault n (header ls)) (end_fault (is_some (first_count (header ls))) (length ls) (after_header ls))
+header_fault n ls = option_or (header_lines_fault n (header ls))
+    (upit_end_fault (is_some (first_count (header ls))) (length ls) (after_header ls))

@@ -2,6 +2,8 @@
 pub mod Records
 pub mod Header
 pub mod Body
+-- records that are read by themselves
+pub mod Parts
 -- how it is written, and that it reads back
 pub mod Writing
 -- the names of all of them

@@ -2,11 +2,12 @@
 use Rattle.std.specs.Prelude.{ℕ, ℤ, ◌+◌, List, [], ◌∷◌, ◌++◌, length, codes, ◌≡◌, None}
 use Rattle.std.specs.Fmt.{decimal}
 use Rattle.fixed_worth.specs.Prelude.{with_line_feeds, amount_text}
-use Rattle.upit_file.specs.Records.{UpitView, fault_of, Denotes}
+use Rattle.upit_file.specs.Records.{UpitView, upit_fault_of, DenotesValues}
 
 -- The lines of the header for n blocks.
 abbrev pub header_lines : List ℕ → ℕ → List (List ℕ)
-header_lines name n = (codes "NAME: " ++ name) ∷ codes "TYPE: UPIT" ∷ (codes "NBLOCKS: " ++ decimal n) ∷ codes "OBJECTIVE_FUNCTION:" ∷ []
+header_lines name n = (codes "NAME: " ++ name) ∷ codes "TYPE: UPIT" ∷ (codes "NBLOCKS: " ++ decimal n)
+    ∷ codes "OBJECTIVE_FUNCTION:" ∷ []
 
 -- The line of block b: its number, a space (32) and its value with at most six places.
 abbrev pub record_line : ℕ → ℤ → List ℕ
@@ -26,6 +27,6 @@ abbrev pub upit_text : UpitView → List ℕ
 upit_text u = with_line_feeds (upit_lines u)
 
 -- The text of a name and values is read without a fault, and denotes them.
-pub record IsReadBack (u : UpitView) : Type 0 where
-  pub sound : fault_of (length u.values) (upit_text u) ≡ None
-  pub same : Denotes (length u.values) (upit_text u) u
+pub record IsUpitReadBack (u : UpitView) : Type 0 where
+  pub sound : upit_fault_of (length u.values) (upit_text u) ≡ None
+  pub same : DenotesValues (length u.values) (upit_text u) u

@@ -4,7 +4,7 @@
 ghost use Rattle.std.specs.Prelude.{◌≡◌, ℕ, ◌<◌, Some, None, [], pos, length, replicate, slice_index_or, IfOk, MatchResult};
 ghost use Rattle.fixed_worth.specs.Record.{numbered_lines};
 ghost use Rattle.upit_file.specs.Body as spec;
-ghost use Rattle.upit_file.specs.Records.{UnlessMemory};
+ghost use Rattle.upit_file.specs.Records.{UnlessUpitMemory};
 
 use crate::record::{Record, read_record};
 use crate::seen::first_place;
@@ -26,9 +26,9 @@ fn zeros(alloc: Global, n: u32) -> Result<Vec<Micros>, AllocError>
 pub(crate) fn read_body(alloc: Global, lines: &mut Lines, n: u32) -> Result<Vec<Micros>, UpitFault>
     ensures { let body = spec.before_end (numbered_lines lines.old.number lines.old.lines) in
         MatchResult result
-        (λ values. (spec.first_fault n [] body ≡ None) × (length values.items ≡ n)
+        (λ values. (spec.first_upit_fault n [] body ≡ None) × (length values.items ≡ n)
         × ((b : ℕ) → b < n → slice_index_or values.items b (pos 0) ≡ spec.value_among body b))
-        (λ e. UnlessMemory e (spec.first_fault n [] body ≡ Some e)) }
+        (λ e. UnlessUpitMemory e (spec.first_upit_fault n [] body ≡ Some e)) }
 {
     let mut seen = vec![in alloc; false; n as usize].map_err(|_| UpitFault::NoMemory)?;
     let mut values = zeros(alloc, n).map_err(|_| UpitFault::NoMemory)?;

@@ -2,14 +2,14 @@
 //!
 //! The function changes nothing. A caller names it where its own proof needs the law.
 
-ghost use Rattle.upit_file.specs.Writing.{IsReadBack};
+ghost use Rattle.upit_file.specs.Writing.{IsUpitReadBack};
 
 use crate::Upit;
 
 /// What [`crate::write_upit`] writes, [`crate::read_upit`] reads for as many blocks without a fault, as the same name
 /// and values.
 pub fn written_is_read(upit: &Upit)
-    ensures { IsReadBack upit.now }
+    ensures { IsUpitReadBack upit.now }
 {
     // proof: there are at most 2^24 values
     let _ = upit.len();

@@ -29,7 +29,7 @@ pub(crate) fn read_record(text: &[u8], line: u64) -> Result<Record, UpitFault>
         (λ read. IsRecord line (fields_of text.now) read)
         (λ e. (is_skipped (fields_of text.now) ≡ false)
         × (header.is_eof (fields_of text.now) ≡ false)
-        × (spec.shape_fault line (fields_of text.now) ≡ Some e)) }
+        × (spec.upit_shape_fault line (fields_of text.now) ≡ Some e)) }
 {
     let mut fields = Fields::new(text);
     let Some(Ok(block)) = fields.next_whole() else {
@@ -53,7 +53,7 @@ fn read_any_record(text: &[u8], line: u64) -> Result<Record, UpitFault>
         (λ read. IsRecord line (fields_of text.now) read)
         (λ e. (is_skipped (fields_of text.now) ≡ false)
         × (header.is_eof (fields_of text.now) ≡ false)
-        × (spec.shape_fault line (fields_of text.now) ≡ Some e)) }
+        × (spec.upit_shape_fault line (fields_of text.now) ≡ Some e)) }
 {
     let mut fields = Fields::new(text);
     let Some(block) = fields.next() else {

@@ -4,7 +4,8 @@ ghost use Rattle.std.specs.Prelude.{◌≡◌, ◌+◌, ◌<◌, ◌≤◌, ◌^
 ghost use Rattle.fixed_worth.specs.Printed.{fraction_text};
 ghost use Rattle.upit_file.specs.Writing as spec;
 
-use fixed_worth::{Micros, ShortLine, WrittenNumber, trimmed_fraction};
+use counted_devices::ShortLine;
+use fixed_worth::{Micros, WrittenNumber, trimmed_fraction};
 
 const MILLION: u64 = 1_000_000;
 

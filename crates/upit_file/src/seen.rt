@@ -9,9 +9,9 @@ use crate::upit_fault::UpitFault;
 pub(crate) fn first_place(seen: &mut Vec<bool>, block: u64, line: u64) -> Result<usize, UpitFault>
     ensures { let had : ℕ → Bool = λ b. slice_index_or seen.old.items b false in MatchResult result
         (λ place. (place ≡ block) × (place < length seen.old.items)
-        × (spec.block_fault (length seen.old.items) had line block ≡ None)
+        × (spec.upit_block_fault (length seen.old.items) had line block ≡ None)
         × (seen.new.items ≡ slice_set seen.old.items block true))
-        (λ e. spec.block_fault (length seen.old.items) had line block ≡ Some e) }
+        (λ e. spec.upit_block_fault (length seen.old.items) had line block ≡ Some e) }
 {
     if block >= seen.len() as u64 {
         return Err(UpitFault::UnknownBlock(line));

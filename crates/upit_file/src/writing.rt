@@ -3,12 +3,13 @@
 ghost use Rattle.std.specs.Prelude.{◌≡◌, ◌+◌, ◌-◌, ◌^◌, ◌<◌, ◌≤◌, [], ◌∷◌, ◌++◌, length, OnOk, OnErr};
 ghost use Rattle.std.specs.Io.KnownBytes.{Appends};
 ghost use Rattle.fixed_worth.specs.Laws.{with_line_feeds};
-ghost use Rattle.fixed_worth.specs.Device.{ReceivedPrefix, SentOrHeld};
+ghost use Rattle.counted_devices.specs.Device.{ReceivedPrefix, SentOrHeld};
 ghost use Rattle.upit_file.specs.Writing as spec;
 
 use crate::record_line::record_line;
 use crate::upit::Upit;
-use fixed_worth::{CountedWrite, MOST_BLOCKS, Micros, Page, WriteFault, WrittenNumber};
+use counted_devices::{CountedWrite, Page, WriteFault};
+use fixed_worth::{MOST_BLOCKS, Micros, WrittenNumber};
 
 fn put_two<W: CountedWrite>(
     page: &mut Page,

@@ -38,14 +38,16 @@ total-minus g h (suc n) =
 
 pub total-zero : (n : ℕ) → total (λ b. zero_amount) n ≡ zero_amount
 total-zero zero = refl
-total-zero (suc n) = let p = total-zero n in Amount_eq _ _ (omega (arith, ints, ap (λ x. x.w) p)) (omega (arith, ints, ap (λ x. x.c) p))
+total-zero (suc n) = let p = total-zero n in Amount_eq _ _ (omega (arith, ints, ap (λ x. x.w) p))
+    (omega (arith, ints, ap (λ x. x.c) p))
 
 -- no term is other than zero
 pub total-none : (g : ℕ → Amount) (n : ℕ) → ((b : ℕ) → b < n → g b ≡ zero_amount) → total g n ≡ zero_amount
 total-none g n h = total-same g (λ b. zero_amount) n h ∙ total-zero n
 
 -- One term of a sum is changed: what the sums differ by is what the terms differ by.
-pub total_changed : (g h : ℕ → Amount) (k n : ℕ) → k < n → ((b : ℕ) → b < n → b ≢ k → h b ≡ g b) → plus (total h n) (g k) ≡ plus (total g n) (h k)
+pub total_changed : (g h : ℕ → Amount) (k n : ℕ) → k < n → ((b : ℕ) → b < n → b ≢ k → h b ≡ g b)
+    → plus (total h n) (g k) ≡ plus (total g n) (h k)
 total_changed g h k zero l e = absurd (omega (arith, l))
 total_changed g h k (suc n) l e =
     elim (cases_eq k n) [
@@ -75,7 +77,8 @@ total_first g k zero l e = let i : k ≡ 0 = omega (arith, l) in rw i (AtMost-re
 total_first g k (suc n) l e =
     elim (cases_eq k (suc n)) [
       | inl i ↦ rw i (AtMost-refl (total g (suc n)))
-      | inr d ↦ AtMost-trans _ _ _ (total_first g k n (omega (arith, l, d)) (λ b m. e b (omega (arith, m)))) (AtMost-plus (total g n) (g n) (e n (omega arith)))
+      | inr d ↦ AtMost-trans _ _ _ (total_first g k n (omega (arith, l, d)) (λ b m. e b (omega (arith, m))))
+          (AtMost-plus (total g n) (g n) (e n (omega arith)))
     ]
 
 -- and so does each term of it
@@ -86,5 +89,6 @@ total_term g k n l e =
     record { worths = omega (arith, ints, s, f); counts = λ i. omega (arith, ints, s, f, i) }
 
 -- where such a sum is zero, each term is
-pub total_none_each : (g : ℕ → Amount) (n : ℕ) → ((b : ℕ) → b < n → NonNeg (g b)) → total g n ≡ zero_amount → (k : ℕ) → k < n → g k ≡ zero_amount
+pub total_none_each : (g : ℕ → Amount) (n : ℕ) → ((b : ℕ) → b < n → NonNeg (g b)) → total g n ≡ zero_amount → (k : ℕ)
+    → k < n → g k ≡ zero_amount
 total_none_each g n e h k l = let t = total_term g k n l e in AtMost-both (g k) zero_amount (rw h at t) (e k l)

@@ -14,5 +14,7 @@ loop-b-init c =
 pub loop-b-preserved : goal.loop-b-preserved
 loop-b-preserved c = record {
   ready = c.in_ok-put_block.ensures.ready;
-  text = block_lines-next (shell_at c.args.series.now.shells) c.loop-b.b (written_bytes c.loop-b.wtr) (written_bytes c.put_block.new.wtr) (rw c.shell_of.ensures.is at c.in_ok-put_block.ensures.text) c.loop-b.invariant.text;
+  text = block_lines-next (shell_at c.args.series.now.shells) c.loop-b.b (written_bytes c.loop-b.wtr)
+      (written_bytes c.put_block.new.wtr) (rw c.shell_of.ensures.is at c.in_ok-put_block.ensures.text)
+      c.loop-b.invariant.text;
 }

@@ -4,4 +4,8 @@ use Rattle.bench_report.specs.Prelude.{names_line, block_lines, IsReady, written
 use Rattle.bench_report.proofs.block_shells.block_shells_text.Given as goal
 
 abbrev pub invariant-loop-b : goal.invariant-loop-b
-invariant-loop-b l = record { ready : IsReady l.wtr; text : written_bytes l.wtr ≡ names_line ++ block_lines (shell_at l.series.shells) l.b }
+invariant-loop-b l = record {
+  ready : IsReady l.wtr;
+  text : written_bytes l.wtr ≡ names_line ++ block_lines
+      (shell_at l.series.shells) l.b;
+}

@@ -7,7 +7,8 @@ use Rattle.bench_report.proofs.block_shells.put_unheld.Goals as goal
 
 pub returns-clause-text : goal.returns-clause-text
 returns-clause-text c =
-    let a : c.as_bytes.result.now ≡ decimal c.args.b = search (rules, c.as_bytes.ensures.value, c.in_ok-block.ensures.ok) in
+    let a : c.as_bytes.result.now ≡ decimal c.args.b = search
+    (rules, c.as_bytes.ensures.value, c.in_ok-block.ensures.ok) in
     let line : row_text default_writer (c.as_bytes.result.now ∷ [] ∷ []) ≡ block_shell_line c.args.b None =
     rw a (two_fields (decimal c.args.b) [] (decimal_plain c.args.b (omega (arith, c.ranges.b.fits))) nothing_plain) in
     rw line at c.put_fields.ensures.text

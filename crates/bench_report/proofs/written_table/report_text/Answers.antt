@@ -14,6 +14,8 @@ loop-row-init c =
 pub loop-row-preserved : goal.loop-row-preserved
 loop-row-preserved c = record {
   ready = c.in_ok-put_row.ensures.ready;
-  text = table-next c.args.rows.now c.loop-row.row-index (record { z = pos 0; shell = 0; blocks = 0; tonnes = pos 0; worth = pos 0 }) (written_bytes c.loop-row.wtr) (written_bytes c.put_row.new.wtr)
+  text = table-next c.args.rows.now c.loop-row.row-index
+      (record { z = pos 0; shell = 0; blocks = 0; tonnes = pos 0; worth = pos 0 }) (written_bytes c.loop-row.wtr)
+      (written_bytes c.put_row.new.wtr)
       c.loop-row-test.true c.in_ok-put_row.ensures.text c.loop-row.invariant.text;
 }

@@ -6,5 +6,5 @@ invariant-loop-i l = record {
   size : length l.values ≡ length l.fn.values;
   here : (j : ℕ) → j < l.i → slice_index_or l.values (l.from + j) (pos 0) ≡ slice_index_or l.row j (pos 0);
   front : (k : ℕ) → k < l.from → slice_index_or l.values k (pos 0) ≡ slice_index_or l.fn.values k (pos 0);
-  behind : (k : ℕ) → l.from + l.i ≤ k → slice_index_or l.values k (pos 0) ≡ slice_index_or l.fn.values k (pos 0);
+  after : (k : ℕ) → l.from + l.i ≤ k → slice_index_or l.values k (pos 0) ≡ slice_index_or l.fn.values k (pos 0);
 }

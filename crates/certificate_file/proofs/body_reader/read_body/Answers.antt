@@ -11,6 +11,10 @@ loop-line-preserved g c =
     let q = c.in_ok-line.ensures in
     let r = c.in_ok-put.ensures in
     let blocks = sym c.len-n.ensures.is in
-    goes_on counts c.len-n.result pairs c.args.pieces.now c.args.parts.now c.loop-line.previous c.loop-line.pieces c.read_in_order.new.pieces c.loop-line.parts c.put.new.self line
-    c.loop-line.invariant (subst (λ (t : Bool). IsPieceRead (line_of t c.len-n.result) c.loop-line.pieces c.read_in_order.new.pieces line) c.counts-counts.ensures q.0) q.1 (sym c.is_end.ensures ∙ c.if-is_end.false) r.0
-    (subst (λ (m : ℕ). Covers m (length pairs) c.put.new.self.flow) blocks r.1) (subst (λ (m : ℕ). Adds m pairs (line ∷ []) c.loop-line.parts c.put.new.self) blocks r.2)
+    goes_on counts c.len-n.result pairs c.args.pieces.now c.args.parts.now c.loop-line.previous c.loop-line.pieces
+    c.read_in_order.new.pieces c.loop-line.parts c.put.new.self line
+    c.loop-line.invariant (subst
+    (λ (t : Bool). IsPieceRead (line_of t c.len-n.result) c.loop-line.pieces c.read_in_order.new.pieces line)
+    c.counts-counts.ensures q.0) q.1 (sym c.is_end.ensures ∙ c.if-is_end.false) r.0
+    (subst (λ (m : ℕ). Covers m (length pairs) c.put.new.self.flow) blocks r.1)
+    (subst (λ (m : ℕ). Adds m pairs (line ∷ []) c.loop-line.parts c.put.new.self) blocks r.2)

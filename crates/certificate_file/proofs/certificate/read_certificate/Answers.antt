@@ -15,7 +15,9 @@ read_body-requires-after_bounds g c = λ lives held.
 
 pub unreachable-requires : goal.unreachable-requires
 unreachable-requires g c =
-    c.in-None.ensures (none_ascends g.G.OrderedGroup.counts c.args.rests.now.blocks c.args.rests.now.pairs c.read_header.new.pieces c.in-Ok.parts c.read_body.new.parts c.in-Ok.ensures.empty c.in_ok-read_body.ensures.0 c.in_ok-read_body.ensures.2)
+    c.in-None.ensures (none_ascends g.G.OrderedGroup.counts c.args.rests.now.blocks c.args.rests.now.pairs
+    c.read_header.new.pieces c.in-Ok.parts c.read_body.new.parts c.in-Ok.ensures.empty c.in_ok-read_body.ensures.0
+    c.in_ok-read_body.ensures.2)
 
 pub returns-clause-read : goal.returns-clause-read
 returns-clause-read g c =
@@ -29,10 +31,15 @@ returns-clause-read g c =
     let h = c.in_ok-header.ensures in
     let e = c.new-pieces.ensures.pieces in
     let made = c.in-Ok.ensures in
-    let empty : IsEmpty c.in-Ok.parts = record { pit = made.empty; source = made.source; rest = made.rest; sink = made.sink } in
-    let q = all_read counts name n pairs text w c.in_ok-header.header c.read_header.new.pieces c.in-Ok.parts c.read_body.new.parts c.len.ensures.is c.group.ensures
-    (subst (λ (ps : List Piece). header_for (Some w) ps ≡ Ok c.in_ok-header.header) e h.0) (h.1 ∙ ap (drop 4) e) h.2 empty c.len.ensures.all r.0 r.1 r.2 in (
+    let empty : IsEmpty c.in-Ok.parts = record
+    { pit = made.empty; source = made.source; rest = made.rest; sink = made.sink } in
+    let q = all_read counts name n pairs text w c.in_ok-header.header c.read_header.new.pieces c.in-Ok.parts
+    c.read_body.new.parts c.len.ensures.is c.group.ensures
+    (subst (λ (ps : List Piece). header_for (Some w) ps ≡ Ok c.in_ok-header.header) e h.0) (h.1 ∙ ap (drop 4) e) h.2
+    empty c.len.ensures.all r.0 r.1 r.2 in (
       q.0,
-      subst (λ (f : FlowView). IsRead counts name n pairs text c.in_ok-header.header.blocks c.in_ok-header.header.price c.in-Some.pit f) (sym c.in-Some.ensures.1)
-          (subst (λ (bs : List ℕ). IsRead counts name n pairs text c.in_ok-header.header.blocks c.in_ok-header.header.price bs c.read_body.new.parts.flow) (sym c.in-Some.ensures.0) q.1),
+      subst (λ (f : FlowView). IsRead counts name n pairs text c.in_ok-header.header.blocks
+          c.in_ok-header.header.price c.in-Some.pit f) (sym c.in-Some.ensures.1)
+          (subst (λ (bs : List ℕ). IsRead counts name n pairs text c.in_ok-header.header.blocks
+          c.in_ok-header.header.price bs c.read_body.new.parts.flow) (sym c.in-Some.ensures.0) q.1),
     )

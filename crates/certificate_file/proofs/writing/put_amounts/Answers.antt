@@ -8,7 +8,8 @@ use Rattle.fixed_worth.proofs.Results.{on_err}
 
 pub loop-k-init : goal.loop-k-init
 loop-k-init g c = record {
-  put = put_begins (g.W.Write.contents c.args.out.now) c.args.page.now (body_text (amount_lines (line_at c.args.kind c.args.rests.now.pairs) 0 c.args.amounts.now));
+  put = put_begins (g.W.Write.contents c.args.out.now) c.args.page.now
+      (body_text (amount_lines (line_at c.args.kind c.args.rests.now.pairs) 0 c.args.amounts.now));
   writable = λ j h. absurd (omega arith);
   kept = refl;
 }
@@ -21,8 +22,11 @@ returns-in_err-put_line-clause-prefix g c =
     let k = c.loop-k.k in
     let x = c.at-amount.result in
     on_err c.from_residual.result
-    (line_failed line xs k (f x) c.amount_line.result (g.W.Write.contents c.args.out.now) (g.W.Write.contents c.loop-k.out) (g.W.Write.contents c.put_line.new.out) c.args.page.now c.loop-k.page (body_text (amount_lines line 0 xs))
-    (omega arith) (sym c.at-amount.ensures) (sym c.is_zero.ensures ∙ c.if-not-is_zero.true) c.amount_line.ensures c.loop-k.invariant.put c.in_err-put_line.ensures.prefix)
+    (line_failed line xs k (f x) c.amount_line.result (g.W.Write.contents c.args.out.now)
+    (g.W.Write.contents c.loop-k.out) (g.W.Write.contents c.put_line.new.out) c.args.page.now c.loop-k.page
+    (body_text (amount_lines line 0 xs))
+    (omega arith) (sym c.at-amount.ensures) (sym c.is_zero.ensures ∙ c.if-not-is_zero.true) c.amount_line.ensures
+    c.loop-k.invariant.put c.in_err-put_line.ensures.prefix)
 
 pub loop-k-preserved : goal.loop-k-preserved
 loop-k-preserved g c =
@@ -39,17 +43,22 @@ loop-k-preserved g c =
     let inside : k < length xs = omega arith in
     let here = sym c.at-amount.ensures in
     let here_too = subst (Writable g.G.OrderedGroup.counts) (sym here) c.can_be_written.ensures in
-    let more = below_more (λ j. Writable g.G.OrderedGroup.counts (amount_at xs j)) k c.loop-k.invariant.writable here_too in
+    let more = below_more (λ j. Writable g.G.OrderedGroup.counts (amount_at xs j)) k c.loop-k.invariant.writable
+    here_too in
     elim c.if-not-is_zero.branch [
       | then-not-is_zero+in_ok-put_line w ↦
-          let put = line_put line xs k (f x) w.amount_line.result first before (g.W.Write.contents w.put_line.new.out) c.args.page.now c.loop-k.page w.put_line.new.page all inside here (sym c.is_zero.ensures ∙ w.if-not-is_zero.true) w.amount_line.ensures c.loop-k.invariant.put w.in_ok-put_line.ensures.held in
+          let put = line_put line xs k (f x) w.amount_line.result first before (g.W.Write.contents w.put_line.new.out)
+          c.args.page.now c.loop-k.page w.put_line.new.page all inside here
+          (sym c.is_zero.ensures ∙ w.if-not-is_zero.true) w.amount_line.ensures c.loop-k.invariant.put
+          w.in_ok-put_line.ensures.held in
           record {
             put = rw (w.page-is, w.out-is) put;
             writable = more;
             kept = rw w.out-is (w.in_ok-put_line.ensures.kept ∙ c.loop-k.invariant.kept);
           }
       | else-not-is_zero w ↦
-          let put = line_skipped line xs k (f x) first before c.args.page.now c.loop-k.page all inside here (sym c.is_zero.ensures ∙ w.if-not-is_zero.false) c.loop-k.invariant.put in
+          let put = line_skipped line xs k (f x) first before c.args.page.now c.loop-k.page all inside here
+          (sym c.is_zero.ensures ∙ w.if-not-is_zero.false) c.loop-k.invariant.put in
           record {
             put = rw (w.page-is, w.out-is) put;
             writable = more;

@@ -5,4 +5,5 @@ use Rattle.check_pit.specs.Checks.{StaysAt}
 use Rattle.check_pit.proofs.closing.first_open.Given as goal
 
 abbrev pub invariant-loop-b : goal.invariant-loop-b
-invariant-loop-b g l = (k : ℕ) → k < length l.fn.net.pairs → from_at l.fn.net.pairs k < l.b → StaysAt l.fn.net.pairs (holds_of l.fn.pit) k
+invariant-loop-b g l = (k : ℕ) → k < length l.fn.net.pairs → from_at l.fn.net.pairs k < l.b
+    → StaysAt l.fn.net.pairs (holds_of l.fn.pit) k

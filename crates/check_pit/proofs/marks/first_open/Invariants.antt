@@ -5,4 +5,5 @@ use Rattle.check_pit.specs.Checks.{StaysAt}
 use Rattle.check_pit.proofs.marks.first_open.Given as goal
 
 abbrev pub invariant-loop-b : goal.invariant-loop-b
-invariant-loop-b l = (k : ℕ) → k < length (pairs_lent l.held).pairs → from_at (pairs_lent l.held).pairs k < l.b → StaysAt (pairs_lent l.held).pairs (λ b. slice_index_or l.marks b false) k
+invariant-loop-b l = (k : ℕ) → k < length (pairs_lent l.held).pairs → from_at (pairs_lent l.held).pairs k < l.b
+    → StaysAt (pairs_lent l.held).pairs (λ b. slice_index_or l.marks b false) k

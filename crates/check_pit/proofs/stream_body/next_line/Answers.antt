@@ -12,14 +12,19 @@ returns-in-Err-clause-line g c =
     let p = c.held-held in
     let counts = g.G.OrderedGroup.counts in
     let f = next_line counts (length net.worths) (has_pair net.pairs) c.args.previous in
-    let h = next_line c.counts.result (pairs_lent p.result).blocks (has_pair (pairs_lent p.result).pairs) c.args.previous in
-    let same : f ≡ h = ap (λ (t : Bool). next_line t (length net.worths) (has_pair net.pairs) c.args.previous) (sym c.counts.ensures)
+    let h = next_line c.counts.result (pairs_lent p.result).blocks (has_pair (pairs_lent p.result).pairs)
+    c.args.previous in
+    let same : f ≡ h = ap (λ (t : Bool). next_line t (length net.worths) (has_pair net.pairs) c.args.previous)
+    (sym c.counts.ensures)
     ∙ ap (λ (n : ℕ). next_line c.counts.result n (has_pair net.pairs) c.args.previous) (sym p.ensures.blocks)
-    ∙ ap (λ (ps : List (ℕ × ℕ)). next_line c.counts.result (pairs_lent p.result).blocks (has_pair ps) c.args.previous) (sym p.ensures.pairs) in
+    ∙ ap (λ (ps : List (ℕ × ℕ)). next_line c.counts.result (pairs_lent p.result).blocks (has_pair ps) c.args.previous)
+    (sym p.ensures.pairs) in
     let s = c.next_length.new.self in
     let piece = held_piece c.in_ok-count.count s.held in (
       c.in_ok-count.ensures.reads,
-      line_wrong (g.R.Read.remaining s.from) f s c.in_ok-count.count c.in-Err.fault (next_reads counts (length net.worths) (has_pair net.pairs) c.args.previous) c.in_ok-count.ensures.line
+      line_wrong (g.R.Read.remaining s.from) f s c.in_ok-count.count c.in-Err.fault
+          (next_reads counts (length net.worths) (has_pair net.pairs) c.args.previous) c.in_ok-count.ensures.line
           (ap (λ k. k (s.number + 1) piece) same ∙ ap (λ (k : ℕ). h (k + 1) piece) (sym c.number-number.ensures.value)
-          ∙ ap (λ (t : List ℕ). h (c.number-number.result + 1) (record { text = t; ended = true })) (sym c.front-text.ensures) ∙ sym c.in-Err.ensures),
+          ∙ ap (λ (t : List ℕ). h (c.number-number.result + 1) (record { text = t; ended = true }))
+          (sym c.front-text.ensures) ∙ sym c.in-Err.ensures),
     )

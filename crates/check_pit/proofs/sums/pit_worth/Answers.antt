@@ -13,11 +13,14 @@ loop-b-preserved g c =
     let e = holds_of c.args.pit.now in
     elim c.if-holds_near.branch [
       | then-holds_near+in_ok-sum v ↦
-          let q = at_view parts c.worths-worths.result.now c.args.net.now.worths c.loop-b.b v.index-worths-b.result c.worths-worths.ensures.is (omega arith) v.index-worths-b.is in
+          let q = at_view parts c.worths-worths.result.now c.args.net.now.worths c.loop-b.b v.index-worths-b.result
+          c.worths-worths.ensures.is (omega arith) v.index-worths-b.is in
           let on = sym c.holds_near.ensures.is ∙ v.if-holds_near.true in
           record {
-            so_far = ap parts v.sum-is ∙ set_step e w c.loop-b.b _ _ _ on c.loop-b.invariant.so_far q v.in_ok-sum.ensures.1;
-            fits = below_more _ _ c.loop-b.invariant.fits (λ k. fits_there _ _ _ _ c.loop-b.invariant.so_far q v.in_ok-sum.ensures.0);
+            so_far = ap parts v.sum-is
+                ∙ set_step e w c.loop-b.b _ _ _ on c.loop-b.invariant.so_far q v.in_ok-sum.ensures.1;
+            fits = below_more _ _ c.loop-b.invariant.fits
+                (λ k. fits_there _ _ _ _ c.loop-b.invariant.so_far q v.in_ok-sum.ensures.0);
           }
       | else-holds_near v ↦
           let off = sym c.holds_near.ensures.is ∙ v.if-holds_near.false in

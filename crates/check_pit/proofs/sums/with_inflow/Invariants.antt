@@ -6,6 +6,7 @@ use Rattle.check_pit.proofs.sums.with_inflow.Given as goal
 
 abbrev pub invariant-loop-k : goal.invariant-loop-k
 invariant-loop-k g l = record {
-  so_far : g.G.OrderedGroup.parts_of l.sum ≡ plus (g.G.OrderedGroup.parts_of l.fn.start) (over (amount_at l.carried) l.numbers l.k-index);
+  so_far : g.G.OrderedGroup.parts_of l.sum ≡ plus (g.G.OrderedGroup.parts_of l.fn.start)
+      (over (amount_at l.carried) l.numbers l.k-index);
   fits : ListFits (g.G.OrderedGroup.parts_of l.fn.start) (amount_at l.carried) l.numbers l.k-index;
 }

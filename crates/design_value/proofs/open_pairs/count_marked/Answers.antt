@@ -8,4 +8,11 @@ bit true = omega arith
 bit false = omega arith
 
 pub overflow_add-count : goal.overflow_add-count
-overflow_add-count c = omega (arith, c.loop-b.invariant, count_in-most (marked_in c.args.marks.now) c.loop-b.b, bit (marked_in c.args.marks.now c.loop-b.b), c.one_if-count.ensures)
+overflow_add-count c = omega (
+  arith,
+  c.loop-b.invariant,
+  count_in-most (marked_in c.args.marks.now) c.loop-b.b,
+  bit
+      (marked_in c.args.marks.now c.loop-b.b),
+  c.one_if-count.ensures,
+)

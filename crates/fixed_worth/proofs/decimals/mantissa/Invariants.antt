@@ -4,6 +4,7 @@ use Rattle.fixed_worth.proofs.decimals.mantissa.Given as goal
 
 abbrev pub invariant-loop-b : goal.invariant-loop-b
 invariant-loop-b l = record {
-  whole : l.all * 10 ^ length (drop l.b-index l.fraction) + value_of (drop l.b-index l.fraction) ≡ value_of (l.whole ++ l.fraction);
+  whole : l.all * 10 ^ length (drop l.b-index l.fraction) + value_of (drop l.b-index l.fraction) ≡ value_of
+      (l.whole ++ l.fraction);
   fits : l.all < 2 ^ 128;
 }

@@ -1,4 +1,6 @@
-use Rattle.fixed_worth.proofs.Common.{arith, ◌∙◌, ◌≡◌, ℕ, zero, suc, ◌+◌, ◌-◌, ◌/◌, ◌%◌, ◌^◌, ◌<◌, ◌≤◌, false, eqb, List, [], ◌∷◌, ◌++◌, refl, sym, ap, common_steps, decimal_digit, decimal_step_wide}
+use Rattle.fixed_worth.proofs.Common.{arith, ◌∙◌, ◌≡◌, ℕ, zero, suc, ◌+◌, ◌-◌, ◌/◌, ◌%◌, ◌^◌, ◌<◌, ◌≤◌, false, eqb}
+use Rattle.fixed_worth.proofs.Common.{List, [], ◌∷◌, ◌++◌, refl, sym, ap, common_steps, decimal_digit}
+use Rattle.fixed_worth.proofs.Common.{decimal_step_wide}
 use Rattle.fixed_worth.proofs.printing.trimmed_fraction.Goals as goal
 use Rattle.fixed_worth.proofs.Powers.{ten_more}
 use Rattle.fixed_worth.specs.Printed.{fixed_width, digit_before, without_trailing_zeros}
@@ -19,12 +21,14 @@ digit_kept (x ∷ xs) d e = ap (digit_before x) (digit_kept xs d e) ∙ before_m
 last_digit : (w n : ℕ) → 10 ≤ n → n < 10 ^ 64 → fixed_width w n ≡ fixed_width (w - 1) (n / 10) ++ ((48 + n % 10) ∷ [])
 last_digit w n h s = grind (arith, common_steps, decimal_step_wide)
 
-last_zero_dropped : (w n : ℕ) → 0 < n → n < 10 ^ 64 → n % 10 ≡ 0 → without_trailing_zeros (fixed_width w n) ≡ without_trailing_zeros (fixed_width (w - 1) (n / 10))
+last_zero_dropped : (w n : ℕ) → 0 < n → n < 10 ^ 64 → n % 10 ≡ 0
+    → without_trailing_zeros (fixed_width w n) ≡ without_trailing_zeros (fixed_width (w - 1) (n / 10))
 last_zero_dropped w n h s z =
     let d : 48 + n % 10 ≡ 48 = omega arith in
     grind (arith, common_steps, zero_dropped, last_digit)
 
-kept_by : (w n : ℕ) (xs : List ℕ) (d : ℕ) → fixed_width w n ≡ xs ++ (d ∷ []) → eqb d 48 ≡ false → without_trailing_zeros (fixed_width w n) ≡ fixed_width w n
+kept_by : (w n : ℕ) (xs : List ℕ) (d : ℕ) → fixed_width w n ≡ xs ++ (d ∷ []) → eqb d 48 ≡ false
+    → without_trailing_zeros (fixed_width w n) ≡ fixed_width w n
 kept_by w n xs d e f = ap without_trailing_zeros e ∙ digit_kept xs d f ∙ sym e
 
 last_digit_kept : (w n : ℕ) → n < 10 ^ 64 → 0 < n % 10 → without_trailing_zeros (fixed_width w n) ≡ fixed_width w n
@@ -44,4 +48,5 @@ pub loop-digits-preserved : goal.loop-digits-preserved
 loop-digits-preserved c = grind (arith, common_steps, tenth_below, last_zero_dropped)
 
 pub returns-clause-same : goal.returns-clause-same
-returns-clause-same c = c.loop-digits.invariant.same ∙ last_digit_kept c.loop-digits.width c.loop-digits.digits c.loop-digits.invariant.small (omega arith)
+returns-clause-same c = c.loop-digits.invariant.same
+    ∙ last_digit_kept c.loop-digits.width c.loop-digits.digits c.loop-digits.invariant.small (omega arith)

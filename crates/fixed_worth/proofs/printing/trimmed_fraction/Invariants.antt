@@ -9,7 +9,8 @@ invariant-loop-digits l = record {
   small : l.digits < 10 ^ 64;
   narrow : l.width ≤ l.places;
   less : l.digits ≤ l.fraction;
-  same : without_trailing_zeros (fixed_width l.places l.fraction) ≡ without_trailing_zeros (fixed_width l.width l.digits);
+  same : without_trailing_zeros (fixed_width l.places l.fraction) ≡ without_trailing_zeros
+      (fixed_width l.width l.digits);
 }
 
 abbrev pub decreases-loop-digits : goal.decreases-loop-digits

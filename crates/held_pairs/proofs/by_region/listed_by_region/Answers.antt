@@ -1,7 +1,8 @@
 use Rattle.fixed_worth.proofs.Common.{ℤ, List, map, sym, subst}
 use Rattle.std.specs.Global.{Vec}
-use Rattle.slope.specs.Prelude.{AreOwnSlopes, Offset, own_offsets}
-use Rattle.slope.specs.declared.selection.Selection.TheVariants.{Every}
+use Rattle.slope.specs.Prelude.{AreOwnSlopes, own_offsets}
+use Rattle.slope_offsets.specs.Prelude.{Offset}
+use Rattle.slope_offsets.specs.declared.selection.Selection.TheVariants.{Every}
 use Rattle.held_pairs.proofs.by_region.listed_by_region.Goals as goal
 
 pub returns-in-Ok-clause-made : goal.returns-in-Ok-clause-made

@@ -1,5 +1,5 @@
 use Rattle.std.proofs.Common.{ℕ, ◌<◌, slice_index_or}
-use Rattle.slope.specs.Offsets.{Offset, IsUpward}
+use Rattle.slope_offsets.specs.Offsets.{Offset, IsUpward}
 use Rattle.held_pairs.proofs.offsets.all_upward.Given as goal
 
 abbrev pub invariant-loop-offset : goal.invariant-loop-offset

@@ -16,20 +16,36 @@ returns-in_err-need-clause-columns c =
 
 pub returns-in_default-clause-columns : goal.returns-in_default-clause-columns
 returns-in_default-clause-columns c =
-    let nothing : c.args.settings.now.processing ≡ None = search (rules, c.processing.ensures.value, c.in_default.not-Some) in
-    let first : first_missing charges c.args.settings.now ≡ Some Processing = rw nothing refl in
-    (Processing, c.missing.ensures, first_missing-append c.args.settings.now c.args.others.now charges c.in_ok-need.ensures.keys ∙ first)
+    let nothing : c.args.settings.now.processing ≡ None = search
+    (rules, c.processing.ensures.value, c.in_default.not-Some) in
+    let first : first_missing charges c.args.settings.now ≡ Some Processing = rw nothing refl in (
+      Processing,
+      c.missing.ensures,
+      first_missing-append c.args.settings.now c.args.others.now charges
+          c.in_ok-need.ensures.keys ∙ first,
+    )
 
 pub returns-in_default-mining-clause-columns : goal.returns-in_default-mining-clause-columns
 returns-in_default-mining-clause-columns c =
-    let said : c.args.settings.now.processing ≡ Some c.in-Some.processing = search (rules, c.in-Some.ensures.value, c.in-Some.is) in
-    let nothing : c.args.settings.now.mining ≡ None = search (rules, c.mining.ensures.value, c.in_default-mining.not-Some) in
-    let first : first_missing charges c.args.settings.now ≡ Some Mining = rw (said, nothing) refl in
-    (Mining, c.missing-in_default-mining.ensures, first_missing-append c.args.settings.now c.args.others.now charges c.in_ok-need.ensures.keys ∙ first)
+    let said : c.args.settings.now.processing ≡ Some c.in-Some.processing = search
+    (rules, c.in-Some.ensures.value, c.in-Some.is) in
+    let nothing : c.args.settings.now.mining ≡ None = search
+    (rules, c.mining.ensures.value, c.in_default-mining.not-Some) in
+    let first : first_missing charges c.args.settings.now ≡ Some Mining = rw (said, nothing) refl in (
+      Mining,
+      c.missing-in_default-mining.ensures,
+      first_missing-append c.args.settings.now c.args.others.now charges
+          c.in_ok-need.ensures.keys ∙ first,
+    )
 
 pub returns-clause-columns : goal.returns-clause-columns
 returns-clause-columns c =
-    let said : c.args.settings.now.processing ≡ Some c.in-Some.processing = search (rules, c.in-Some.ensures.value, c.in-Some.is) in
-    let mined : c.args.settings.now.mining ≡ Some c.in-Some-mining.mining = search (rules, c.in-Some-mining.ensures.value, c.in-Some-mining.is) in
-    let all : first_missing charges c.args.settings.now ≡ None = rw (said, mined) refl in
-    (rw (said, mined) refl, first_missing-append c.args.settings.now c.args.others.now charges c.in_ok-need.ensures.keys ∙ all)
+    let said : c.args.settings.now.processing ≡ Some c.in-Some.processing = search
+    (rules, c.in-Some.ensures.value, c.in-Some.is) in
+    let mined : c.args.settings.now.mining ≡ Some c.in-Some-mining.mining = search
+    (rules, c.in-Some-mining.ensures.value, c.in-Some-mining.is) in
+    let all : first_missing charges c.args.settings.now ≡ None = rw (said, mined) refl in (
+      rw (said, mined) refl,
+      first_missing-append c.args.settings.now c.args.others.now charges
+          c.in_ok-need.ensures.keys ∙ all,
+    )

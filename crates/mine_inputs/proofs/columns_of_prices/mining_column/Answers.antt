@@ -17,11 +17,16 @@ returns-in_err-need-clause-columns c =
 pub returns-in_default-clause-columns : goal.returns-in_default-clause-columns
 returns-in_default-clause-columns c =
     let nothing : c.args.settings.now.mining ≡ None = search (rules, c.mining.ensures.value, c.in_default.not-Some) in
-    let first : first_missing charges c.args.settings.now ≡ Some Mining = rw nothing refl in
-    (Mining, c.missing.ensures, first_missing-append c.args.settings.now c.args.others.now charges c.in_ok-need.ensures.keys ∙ first)
+    let first : first_missing charges c.args.settings.now ≡ Some Mining = rw nothing refl in (
+      Mining,
+      c.missing.ensures,
+      first_missing-append c.args.settings.now c.args.others.now charges
+          c.in_ok-need.ensures.keys ∙ first,
+    )
 
 pub returns-clause-columns : goal.returns-clause-columns
 returns-clause-columns c =
-    let mined : c.args.settings.now.mining ≡ Some c.in-Some.mining = search (rules, c.in-Some.ensures.value, c.in-Some.is) in
+    let mined : c.args.settings.now.mining ≡ Some c.in-Some.mining = search
+    (rules, c.in-Some.ensures.value, c.in-Some.is) in
     let all : first_missing charges c.args.settings.now ≡ None = rw mined refl in
     (rw mined refl, first_missing-append c.args.settings.now c.args.others.now charges c.in_ok-need.ensures.keys ∙ all)

@@ -11,6 +11,9 @@ returns-in_err-read-clause-read g c = λ factor.
 pub returns-clause-read : goal.returns-clause-read
 returns-clause-read g c = λ factor.
     let read = c.in_ok-read.read in
-    under2 (g.D.Read.remaining c.args.settings.now) (g.D.Read.remaining c.args.blocks.now) (λ s b. AreSlopedTexts s b read.settings read.columns read.model)
-    (λ s b. MatchResult c.held_of_texts.result (λ mine. IsMineRead (sloped_texts s b factor) factor mine.worths mine.predecessors) (MineFails (sloped_texts s b factor)))
+    under2 (g.D.Read.remaining c.args.settings.now) (g.D.Read.remaining c.args.blocks.now)
+    (λ s b. AreSlopedTexts s b read.settings read.columns read.model)
+    (λ s b. MatchResult c.held_of_texts.result
+    (λ mine. IsMineRead (sloped_texts s b factor) factor mine.worths mine.predecessors)
+    (MineFails (sloped_texts s b factor)))
     (c.in_ok-read.ensures.read factor) (λ s b t. c.held_of_texts.ensures.read factor s b t)

@@ -7,5 +7,7 @@ pub loop-i-preserved : goal.loop-i-preserved
 loop-i-preserved c =
     let r = c.in_ok-revenue.ensures in
     let p = c.in_ok-processing.ensures in
-    let made : c.new.result ≡ way_from c.args.model.now c.loop-i.i = c.new.ensures ∙ (λ j. record { revenue = r j; processing = p j }) in
-    one_more (way_from c.args.model.now) c.loop-i.i c.loop-i.ways.items _ _ c.loop-i.invariant c.in_ok-push.ensures.items made
+    let made : c.new.result ≡ way_from c.args.model.now c.loop-i.i = c.new.ensures
+    ∙ (λ j. record { revenue = r j; processing = p j }) in
+    one_more (way_from c.args.model.now) c.loop-i.i c.loop-i.ways.items _ _ c.loop-i.invariant
+    c.in_ok-push.ensures.items made

@@ -1,4 +1,5 @@
-use Rattle.fixed_worth.proofs.Common.{◌≡◌, ◌+◌, ◌≤◌, ◌++◌, false, length, map, vec_capacity, ◌||◌, nat_le, list_all, list_any}
+use Rattle.fixed_worth.proofs.Common.{◌≡◌, ◌+◌, ◌≤◌, ◌++◌, false, length, map, vec_capacity, ◌||◌, nat_le, list_all}
+use Rattle.fixed_worth.proofs.Common.{list_any}
 use Rattle.fixed_worth.specs.declared.limits.TheConstants.{LINE_BYTES}
 use Rattle.fixed_worth.specs.Record.{reads, number_of}
 use Rattle.prec_file.proofs.records.read_row.Given as goal
@@ -10,7 +11,8 @@ invariant-loop-read l =
     let all = map (λ f. f.text) l.fn.fields in
     record {
       good : list_all reads left ≡ list_all reads all;
-      known : (l.unknown || list_any (nat_le l.n) (map number_of left)) ≡ (nat_le l.n l.block || list_any (nat_le l.n) (map number_of all));
+      known : (l.unknown || list_any (nat_le l.n) (map number_of left))
+          ≡ (nat_le l.n l.block || list_any (nat_le l.n) (map number_of all));
       count : l.found + length left ≡ length all;
       few : length all ≤ LINE_BYTES;
       row : l.unknown ≡ false → l.row.items ++ map number_of left ≡ map number_of all;

@@ -1,20 +1,24 @@
-use Rattle.fixed_worth.proofs.Common.{ℕ, List, [], ◌∷◌, ◌++◌, length, subst, arith, decimal, OnErr, on_ok_weaker, on_err_weaker, common_steps}
-use Rattle.fixed_worth.specs.Device.{ReceivedPrefix}
-use Rattle.fixed_worth.proofs.Pieces.{held_both, prefix_in_second}
-use Rattle.prec_file.specs.Written.{spaced_numbers}
+use Rattle.fixed_worth.proofs.Common.{◌≡◌, ℕ, List, [], ◌∷◌, ◌++◌, length, ap, ◌∙◌, subst, decimal, OnOk, OnErr}
+use Rattle.counted_devices.specs.Device.{SentOrHeld, ReceivedPrefix}
+use Rattle.prec_file.specs.Written.{prec_line, spaced_numbers}
 use Rattle.prec_file.proofs.writing.put_line.Goals as goal
 
--- the line's front and back
-abbrev front : ℕ → List ℕ → List ℕ
-front b above = decimal b ++ (32 ∷ decimal (length above))
-
-abbrev back : List ℕ → List ℕ
-back above = spaced_numbers above ++ (10 ∷ [])
+-- the line of a block with these predecessors
+abbrev line_of : ℕ → List ℕ → List ℕ
+line_of b above = (decimal b ++ (32 ∷ decimal (length above))) ++ (spaced_numbers above ++ (10 ∷ []))
 
 pub returns-clause-held : goal.returns-clause-held
-returns-clause-held g c = grind (arith, common_steps, on_ok_weaker, held_both)
+returns-clause-held g c =
+    let line : c.as_bytes.result.now ≡ prec_line c.args.predecessors.now.pairs c.args.block = c.as_bytes.ensures
+    ∙ c.set.ensures ∙ ap (line_of c.args.block) c.above.ensures in
+    subst (λ (t : List ℕ). OnOk c.put.result
+    (SentOrHeld (g.W.Write.contents c.args.out.now) (g.W.Write.contents c.put.new.out) c.put.new.self
+    (c.args.page.now ++ t))) line c.put.ensures.held
 
 pub returns-clause-prefix : goal.returns-clause-prefix
 returns-clause-prefix g c =
-    subst (λ above. OnErr c.put_rest.result (ReceivedPrefix (g.W.Write.contents c.args.out.now) (g.W.Write.contents c.put_rest.new.out) (c.args.page.now ++ (front c.args.block above ++ back above))))
-    c.above-above.ensures (on_err_weaker _ (prefix_in_second _ _ _ _ _ _ _ c.in_ok-put_head.ensures.held) c.put_rest.ensures.prefix)
+    let line : c.as_bytes.result.now ≡ prec_line c.args.predecessors.now.pairs c.args.block = c.as_bytes.ensures
+    ∙ c.set.ensures ∙ ap (line_of c.args.block) c.above.ensures in
+    subst (λ (t : List ℕ). OnErr c.put.result
+    (ReceivedPrefix (g.W.Write.contents c.args.out.now) (g.W.Write.contents c.put.new.out)
+    (c.args.page.now ++ t))) line c.put.ensures.prefix

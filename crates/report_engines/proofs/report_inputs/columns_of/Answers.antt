@@ -3,7 +3,7 @@ use Rattle.settings_file.specs.declared.keys.Key.TheVariants.{Tonnes}
 use Rattle.settings_file.specs.Settings.{first_missing}
 use Rattle.report_engines.proofs.Readings.{others_known}
 use Rattle.report_engines.proofs.report_inputs.columns_of.Goals as goal
-use Rattle.engines.proofs.Unread.{never}
+use Rattle.check_engines.proofs.Unread.{never}
 
 pub returns-in_err-prices-clause-columns : goal.returns-in_err-prices-clause-columns
 returns-in_err-prices-clause-columns c =

@@ -11,5 +11,6 @@ loop-b-preserved c =
     let b = c.loop-b.b in
     let t = to_z w128 (of_z w128 c.tonnes_of.result) in
     let is : t ≡ f b = search (rules, c.tonnes_of.ensures) in
-    let one : c.loop-b.tonnes.items ++ t ∷ [] ≡ map f (range_with_len 0 b) ++ f b ∷ [] = rw (c.loop-b.invariant, is) refl in
+    let one : c.loop-b.tonnes.items ++ t ∷ [] ≡ map f (range_with_len 0 b) ++ f b ∷ [] = rw (c.loop-b.invariant, is)
+    refl in
     c.in_ok-push.ensures.items ∙ one ∙ sym (map-range_with_len_more f 0 b b (omega arith))

@@ -7,4 +7,6 @@ loop-way-init c = λ worths rows h. ap (map (λ column. column.items)) c.new-col
 
 pub loop-way-preserved : goal.loop-way-preserved
 loop-way-preserved c =
-    columns_more c.args.blocks.now.model.now c.args.blocks.now.priced_by.now c.args.blocks.now.series.now c.args.ways.now c.loop-way.way c.loop-way.columns.items _ c.in_ok-column.column c.in_ok-push.ensures.items c.loop-way.invariant c.in_ok-column.ensures
+    columns_more c.args.blocks.now.model.now c.args.blocks.now.priced_by.now c.args.blocks.now.series.now
+    c.args.ways.now c.loop-way.way c.loop-way.columns.items _ c.in_ok-column.column c.in_ok-push.ensures.items
+    c.loop-way.invariant c.in_ok-column.ensures

@@ -8,5 +8,6 @@ pub loop-b-preserved : goal.loop-b-preserved
 loop-b-preserved c =
     let f : ℕ → Option ℕ = way_at c.args.prices.now c.args.factor in
     let b = c.loop-b.b in
-    let one : c.loop-b.ways.items ++ c.way_of.result ∷ [] ≡ map f (range_with_len 0 b) ++ f b ∷ [] = rw (c.loop-b.invariant, c.way_of.ensures) refl in
+    let one : c.loop-b.ways.items ++ c.way_of.result ∷ [] ≡ map f (range_with_len 0 b) ++ f b ∷ [] = rw
+    (c.loop-b.invariant, c.way_of.ensures) refl in
     c.in_ok-push.ensures.items ∙ one ∙ sym (map-range_with_len_more f 0 b b (omega arith))

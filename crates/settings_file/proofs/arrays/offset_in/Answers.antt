@@ -7,6 +7,7 @@ use Rattle.settings_file.proofs.arrays.offset_in.Goals as goal
 
 pub returns-then-len-ne3 : goal.returns-then-len-ne3
 returns-then-len-ne3 c =
-    let shown : as_array (view c.args.value.now) ≡ Some (items_view c.in-Some.numbers.now.items) = search (rules, c.in-Some.ensures) in
+    let shown : as_array (view c.args.value.now) ≡ Some (items_view c.in-Some.numbers.now.items) = search
+    (rules, c.in-Some.ensures) in
     let short = not-three c.in-Some.numbers.now.items (λ e. c.if-len-ne3.true (search (rules, c.len.ensures, e))) in
     sym (ap offset_of_items shown ∙ short)

@@ -5,4 +5,5 @@ use Rattle.settings_file.proofs.ReadArrays.{after}
 use Rattle.settings_file.proofs.arrays.offsets_among.Given as goal
 
 abbrev pub invariant-loop-value : goal.invariant-loop-value
-invariant-loop-value l = all_read offset_of (items_view l.values.items) ≡ after l.offsets.items (all_read offset_of (items_view (drop l.value-index l.values.items)))
+invariant-loop-value l = all_read offset_of (items_view l.values.items) ≡ after l.offsets.items
+    (all_read offset_of (items_view (drop l.value-index l.values.items)))

@@ -6,4 +6,6 @@ use Rattle.settings_file.proofs.ReadArrays.{after}
 use Rattle.settings_file.proofs.arrays.slopes_among.Given as goal
 
 abbrev pub invariant-loop-value : goal.invariant-loop-value
-invariant-loop-value l = all_read offsets_of (items_view l.values.items) ≡ after (map (λ (w : Vec (ℤ × ℤ × ℤ)). w.items) l.slopes.items) (all_read offsets_of (items_view (drop l.value-index l.values.items)))
+invariant-loop-value l = all_read offsets_of (items_view l.values.items) ≡ after
+    (map (λ (w : Vec (ℤ × ℤ × ℤ)). w.items) l.slopes.items)
+    (all_read offsets_of (items_view (drop l.value-index l.values.items)))

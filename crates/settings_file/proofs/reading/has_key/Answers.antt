@@ -6,7 +6,8 @@ use Rattle.toml.proofs.Views.{table_get}
 use Rattle.settings_file.proofs.reading.has_key.Goals as goal
 
 -- something is found where something is there to be shown
-found_shown : (o : Option (Bor Value)) (shown : Option Data) → option_map (λ x. view x.now) o ≡ shown → is_some o ≡ is_some shown
+found_shown : (o : Option (Bor Value)) (shown : Option Data) → option_map (λ x. view x.now) o ≡ shown
+    → is_some o ≡ is_some shown
 found_shown (Some x) shown h = ap is_some h
 found_shown None shown h = ap is_some h
 

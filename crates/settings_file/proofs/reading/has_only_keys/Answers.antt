@@ -1,7 +1,13 @@
 use Rattle.std.proofs.Common.{◌∙◌, sym, ap}
-use Rattle.settings_file.specs.Keys.{is_known}
-use Rattle.settings_file.proofs.ReadArrays.{names_pass, names_pass-table}
+use Rattle.settings_file.specs.Keys.{is_settings_key}
+use Rattle.toml_values.proofs.Names.{names_pass, names_pass-table}
 use Rattle.settings_file.proofs.reading.has_only_keys.Goals as goal
 
 pub loop-name-init : goal.loop-name-init
-loop-name-init c = (tt, tt, sym (names_pass-table is_known c.args.table.now.entries) ∙ ap (names_pass is_known) (sym c.keys-name-items.ensures.rest ∙ sym c.into_iter-name-iterator.ensures.into_iter_gives))
+loop-name-init c = (
+  tt,
+  tt,
+  sym (names_pass-table is_settings_key c.args.table.now.entries)
+      ∙ ap (names_pass is_settings_key) (sym c.keys-name-items.ensures.rest
+      ∙ sym c.into_iter-name-iterator.ensures.into_iter_gives),
+)

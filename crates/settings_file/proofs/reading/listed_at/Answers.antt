@@ -1,7 +1,7 @@
 use Rattle.std.proofs.Common.{◌≡◌, ◌∙◌, Some, None, sym, ap, rules}
 use Rattle.toml.specs.View.{view}
 use Rattle.toml.proofs.Views.{table_get}
-use Rattle.settings_file.specs.Prelude.{value_said, or_bad, offsets_of}
+use Rattle.settings_file.specs.Prelude.{optional_said, optional_or_bad, offsets_of}
 use Rattle.settings_file.specs.declared.keys.Key.TheVariants.{Offsets}
 use Rattle.settings_file.proofs.reading.listed_at.Goals as goal
 
@@ -9,18 +9,20 @@ pub returns-in-Ok-Some-clause-value : goal.returns-in-Ok-Some-clause-value
 returns-in-Ok-Some-clause-value c =
     let found = table_get c.get.result c.name.result.now c.args.table.now.entries c.get.ensures.value in
     let member = rw (c.name.ensures, c.in-Some.is) at found in
-    let read : offsets_of (view c.in-Some.value.now) ≡ Some c.in-Ok-Some.offsets.items = search (rules, c.in-Ok-Some.ensures, c.in-Ok-Some.field-0-is) in
-    ap (value_said Offsets offsets_of) (sym member) ∙ ap (or_bad Offsets) read
+    let read : offsets_of (view c.in-Some.value.now) ≡ Some c.in-Ok-Some.offsets.items = search
+    (rules, c.in-Ok-Some.ensures, c.in-Ok-Some.field-0-is) in
+    ap (optional_said Offsets offsets_of) (sym member) ∙ ap (optional_or_bad Offsets) read
 
 pub returns-in-Ok-None-clause-value : goal.returns-in-Ok-None-clause-value
 returns-in-Ok-None-clause-value c = λ other.
     let found = table_get c.get.result c.name.result.now c.args.table.now.entries c.get.ensures.value in
     let member = rw (c.name.ensures, c.in-Some.is) at found in
-    let bad : offsets_of (view c.in-Some.value.now) ≡ None = search (rules, c.in-Ok-None.ensures, c.in-Ok-None.field-0-is) in
-    ap (value_said Offsets offsets_of) (sym member) ∙ ap (or_bad Offsets) bad
+    let bad : offsets_of (view c.in-Some.value.now) ≡ None = search
+    (rules, c.in-Ok-None.ensures, c.in-Ok-None.field-0-is) in
+    ap (optional_said Offsets offsets_of) (sym member) ∙ ap (optional_or_bad Offsets) bad
 
 pub returns-in-None-clause-value : goal.returns-in-None-clause-value
 returns-in-None-clause-value c =
     let found = table_get c.get.result c.name.result.now c.args.table.now.entries c.get.ensures.value in
     let member = rw (c.name.ensures, c.in-None.is) at found in
-    ap (value_said Offsets offsets_of) (sym member)
+    ap (optional_said Offsets offsets_of) (sym member)

@@ -2,7 +2,7 @@ use Rattle.fixed_worth.proofs.Common.{◌≡◌, ◌∙◌, Some, None, sym, ap,
 use Rattle.std.specs.Global.{Vec}
 use Rattle.toml.specs.View.{view}
 use Rattle.toml.proofs.Views.{table_get}
-use Rattle.settings_file.specs.Prelude.{value_said, or_bad, slopes_of}
+use Rattle.settings_file.specs.Prelude.{optional_said, optional_or_bad, slopes_of}
 use Rattle.settings_file.specs.declared.keys.Key.TheVariants.{Slopes}
 use Rattle.settings_file.proofs.reading.slopes_at.Goals as goal
 
@@ -10,18 +10,21 @@ pub returns-in-Ok-Some-clause-value : goal.returns-in-Ok-Some-clause-value
 returns-in-Ok-Some-clause-value c =
     let found = table_get c.get.result c.name.result.now c.args.table.now.entries c.get.ensures.value in
     let member = rw (c.name.ensures, c.in-Some.is) at found in
-    let read : slopes_of (view c.in-Some.value.now) ≡ Some (map (λ (w : Vec (ℤ × ℤ × ℤ)). w.items) c.in-Ok-Some.slopes.items) = search (rules, c.in-Ok-Some.ensures, c.in-Ok-Some.field-0-is) in
-    ap (value_said Slopes slopes_of) (sym member) ∙ ap (or_bad Slopes) read
+    let read : slopes_of (view c.in-Some.value.now) ≡ Some
+    (map (λ (w : Vec (ℤ × ℤ × ℤ)). w.items) c.in-Ok-Some.slopes.items) = search
+    (rules, c.in-Ok-Some.ensures, c.in-Ok-Some.field-0-is) in
+    ap (optional_said Slopes slopes_of) (sym member) ∙ ap (optional_or_bad Slopes) read
 
 pub returns-in-Ok-None-clause-value : goal.returns-in-Ok-None-clause-value
 returns-in-Ok-None-clause-value c = λ other.
     let found = table_get c.get.result c.name.result.now c.args.table.now.entries c.get.ensures.value in
     let member = rw (c.name.ensures, c.in-Some.is) at found in
-    let bad : slopes_of (view c.in-Some.value.now) ≡ None = search (rules, c.in-Ok-None.ensures, c.in-Ok-None.field-0-is) in
-    ap (value_said Slopes slopes_of) (sym member) ∙ ap (or_bad Slopes) bad
+    let bad : slopes_of (view c.in-Some.value.now) ≡ None = search
+    (rules, c.in-Ok-None.ensures, c.in-Ok-None.field-0-is) in
+    ap (optional_said Slopes slopes_of) (sym member) ∙ ap (optional_or_bad Slopes) bad
 
 pub returns-in-None-clause-value : goal.returns-in-None-clause-value
 returns-in-None-clause-value c =
     let found = table_get c.get.result c.name.result.now c.args.table.now.entries c.get.ensures.value in
     let member = rw (c.name.ensures, c.in-None.is) at found in
-    ap (value_said Slopes slopes_of) (sym member)
+    ap (optional_said Slopes slopes_of) (sym member)

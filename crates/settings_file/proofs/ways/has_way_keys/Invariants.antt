@@ -1,7 +1,8 @@
 use Rattle.std.proofs.Common.{◌≡◌}
 use Rattle.toml.specs.View.{table_view}
-use Rattle.settings_file.specs.Prelude.{all_named, is_way_key}
-use Rattle.settings_file.proofs.ReadArrays.{names_pass}
+use Rattle.toml_values.specs.Prelude.{all_named}
+use Rattle.settings_file.specs.Prelude.{is_way_key}
+use Rattle.toml_values.proofs.Names.{names_pass}
 use Rattle.settings_file.proofs.ways.has_way_keys.Given as goal
 
 abbrev pub invariant-loop-name : goal.invariant-loop-name

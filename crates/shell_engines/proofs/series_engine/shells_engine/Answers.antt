@@ -11,7 +11,10 @@ returns-in_err-mine-clause-answer g c =
     let p = err_from_is_err_and c.from_residual.result c.from_residual.ensures.1 in
     let inputs = c.args.inputs.now in
     let outputs = c.args.outputs.now in
-    rw (p.1, p.2) (mine_unread (g.D.Read.remaining inputs.settings) (g.D.Read.remaining inputs.blocks) (precedence_in inputs.prec g.D.Read.remaining) (contents_in outputs.by_block g.V.Write.contents) (g.W.Write.contents outputs.out) c.args.effort (wanted_by outputs) c.in_err-mine.field-0.0 c.in_err-mine.ensures.read)
+    rw (p.1, p.2) (mine_unread (g.D.Read.remaining inputs.settings) (g.D.Read.remaining inputs.blocks)
+    (precedence_in inputs.prec g.D.Read.remaining) (contents_in outputs.by_block g.V.Write.contents)
+    (g.W.Write.contents outputs.out) c.args.effort (wanted_by outputs) c.in_err-mine.field-0.0
+    c.in_err-mine.ensures.read)
 
 pub returns-in_err-answer-clause-answer : goal.returns-in_err-answer-clause-answer
 returns-in_err-answer-clause-answer g c =
@@ -19,9 +22,13 @@ returns-in_err-answer-clause-answer g c =
     let inputs = c.args.inputs.now in
     let outputs = c.args.outputs.now in
     let mine = c.in_ok-mine.mine in
-    rw (p.1, p.2) (unanswered (g.D.Read.remaining inputs.settings) (g.D.Read.remaining inputs.blocks) (precedence_in inputs.prec g.D.Read.remaining)
-    (λ s b p. AnswersShells s b p c.args.effort (wanted_by outputs)) ShellsFail (λ s b p. IsSeriesRead s b p mine.prices mine.predecessors mine.factors.items mine.factor) c.in_ok-mine.ensures.read
-    (contents_in outputs.by_block g.V.Write.contents) (g.W.Write.contents outputs.out) c.in_err-answer.field-0.0 c.in_err-answer.ensures.answer)
+    rw (p.1, p.2) (unanswered (g.D.Read.remaining inputs.settings) (g.D.Read.remaining inputs.blocks)
+    (precedence_in inputs.prec g.D.Read.remaining)
+    (λ s b p. AnswersShells s b p c.args.effort (wanted_by outputs)) ShellsFail
+    (λ s b p. IsSeriesRead s b p mine.prices mine.predecessors mine.factors.items mine.factor)
+    c.in_ok-mine.ensures.read
+    (contents_in outputs.by_block g.V.Write.contents) (g.W.Write.contents outputs.out) c.in_err-answer.field-0.0
+    c.in_err-answer.ensures.answer)
 
 pub returns-clause-answer : goal.returns-clause-answer
 returns-clause-answer g c =
@@ -30,8 +37,15 @@ returns-clause-answer g c =
     let new = c.send.new.outputs in
     let mine = c.in_ok-mine.mine in
     let a = c.in_ok-answer.answer in
-    let P : Wanted → Type 0 = λ k. (s b : List ℕ) (p : PrecedenceBy) → IsSeriesRead s b p mine.prices mine.predecessors mine.factors.items mine.factor → AnswersShells s b p c.args.effort k a.verdict a.table.items a.text.items in
-    sent (g.D.Read.remaining inputs.settings) (g.D.Read.remaining inputs.blocks) (precedence_in inputs.prec g.D.Read.remaining)
-    (λ s b p. AnswersShells s b p c.args.effort (wanted_by old)) ShellsFail (λ s b p. IsSeriesRead s b p mine.prices mine.predecessors mine.factors.items mine.factor) c.in_ok-mine.ensures.read
-    (contents_in old.by_block g.V.Write.contents) (contents_in new.by_block g.V.Write.contents) (g.W.Write.contents old.out) (g.W.Write.contents new.out) a.verdict a.table.items a.text.items
-    (subst P c.wanted-wanted.ensures c.in_ok-answer.ensures.answer) (λ s b p. tt) c.send.result c.send.ensures.sent c.send.ensures.cut
+    let P : Wanted → Type 0 = λ k. (s b : List ℕ) (p : PrecedenceBy)
+    → IsSeriesRead s b p mine.prices mine.predecessors mine.factors.items mine.factor
+    → AnswersShells s b p c.args.effort k a.verdict a.table.items a.text.items in
+    sent (g.D.Read.remaining inputs.settings) (g.D.Read.remaining inputs.blocks)
+    (precedence_in inputs.prec g.D.Read.remaining)
+    (λ s b p. AnswersShells s b p c.args.effort (wanted_by old)) ShellsFail
+    (λ s b p. IsSeriesRead s b p mine.prices mine.predecessors mine.factors.items mine.factor)
+    c.in_ok-mine.ensures.read
+    (contents_in old.by_block g.V.Write.contents) (contents_in new.by_block g.V.Write.contents)
+    (g.W.Write.contents old.out) (g.W.Write.contents new.out) a.verdict a.table.items a.text.items
+    (subst P c.wanted-wanted.ensures c.in_ok-answer.ensures.answer) (λ s b p. tt) c.send.result c.send.ensures.sent
+    c.send.ensures.cut

@@ -6,10 +6,12 @@ use Rattle.shells.proofs.ways.is_some_negative.Goals as goal
 pub loop-i-preserved : goal.loop-i-preserved
 loop-i-preserved c =
     let P = λ (way : WayView). pos 0 ≤ℤ number_at way.revenue c.args.b in
-    All-more P c.args.ways.now c.loop-i.i c.index-ways-i.result c.loop-i-test.true c.loop-i.invariant (subst P c.index-ways-i.is c.if-is_negative.ensures)
+    All-more P c.args.ways.now c.loop-i.i c.index-ways-i.result c.loop-i-test.true c.loop-i.invariant
+    (subst P c.index-ways-i.is c.if-is_negative.ensures)
 
 pub returns : goal.returns
 returns c =
     let P = λ (way : WayView). pos 0 ≤ℤ number_at way.revenue c.args.b in
     All-map (λ r. pos 0 ≤ℤ r) (λ (way : WayView). number_at way.revenue c.args.b) c.args.ways.now
-    (subst (λ (ws : List WayView). All P ws) (take_all c.loop-i.i c.args.ways.now c.loop-i-test.false) c.loop-i.invariant)
+    (subst (λ (ws : List WayView). All P ws) (take_all c.loop-i.i c.args.ways.now c.loop-i-test.false)
+    c.loop-i.invariant)

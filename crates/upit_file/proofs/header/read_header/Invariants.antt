@@ -7,7 +7,8 @@ use Rattle.upit_file.proofs.header.read_header.Given as goal
 
 abbrev pub invariant-loop-text : goal.invariant-loop-text
 invariant-loop-text l = record {
-  going : Going (unwrap_or l.wanted (blocks_declared (numbered_lines 0 l.fn.lines.lines))) (numbered_lines 0 l.fn.lines.lines) l.name l.wanted l.counted l.lines;
+  going : Going (unwrap_or l.wanted (blocks_declared (numbered_lines 0 l.fn.lines.lines)))
+      (numbered_lines 0 l.fn.lines.lines) l.name l.wanted l.counted l.lines;
   bound : IfSome l.counted (λ n. n ≤ MOST_BLOCKS);
 }
 

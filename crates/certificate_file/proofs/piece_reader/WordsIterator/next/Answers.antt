@@ -4,11 +4,13 @@ use Rattle.certificate_file.proofs.piece_reader.WordsIterator.next.Goals as goal
 
 pub returns-in-Some-clause-steps : goal.returns-in-Some-clause-steps
 returns-in-Some-clause-steps c =
-    word_step c.args.self.now c.self.inside.done c.self.inside.rest.now c.in-Some.word.now c.in-Some.rest.now c.self.view_is c.if-self.false c.in-Some.ensures
+    word_step c.args.self.now c.self.inside.done c.self.inside.rest.now c.in-Some.word.now c.in-Some.rest.now
+    c.self.view_is c.if-self.false c.in-Some.ensures
 
 pub returns-in-None-clause-steps : goal.returns-in-None-clause-steps
 returns-in-None-clause-steps c =
-    sym (words_left c.args.self.now c.self.inside.done false c.self.inside.rest.now c.self.view_is c.if-self.false) ∙ c.in-None.ensures
+    sym (words_left c.args.self.now c.self.inside.done false c.self.inside.rest.now c.self.view_is c.if-self.false)
+    ∙ c.in-None.ensures
 
 pub returns-in-Some-clause-goes : goal.returns-in-Some-clause-goes
 returns-in-Some-clause-goes c =

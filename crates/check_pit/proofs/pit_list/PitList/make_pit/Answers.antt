@@ -8,4 +8,6 @@ pub unreachable-requires : goal.unreachable-requires
 unreachable-requires c =
     let not_made = ap (λ (v : PitListView). v.is_pit) c.self.view_is ∙ c.requires.open in
     let here = c.replace-blocks.ensures.value in
-    c.in-None.ensures (subst IsAscending (sym (ap (λ (v : PitListView). v.blocks) c.self.view_is) ∙ blocks_open c.self.inside.blocks.items c.self.inside.pit not_made ∙ sym (ap (λ v. v.items) here)) c.requires.ascending)
+    c.in-None.ensures (subst IsAscending (sym (ap (λ (v : PitListView). v.blocks) c.self.view_is)
+    ∙ blocks_open c.self.inside.blocks.items c.self.inside.pit not_made ∙ sym (ap (λ v. v.items) here))
+    c.requires.ascending)

@@ -11,6 +11,8 @@ returns g c =
     let items = c.self.inside.balances.items in
     let is = ap (λ (v : RoomView). v.balances) c.self.view_is in
     let inside : c.args.block < length items = omega (arith, c.requires, length_view parts items _ is) in
-    let here = at_view parts items c.args.self.now.balances c.args.block c.index_mut-balance.result.now is inside c.index_mut-balance.ensures.value in
+    let here = at_view parts items c.args.self.now.balances c.args.block c.index_mut-balance.result.now is inside
+    c.index_mut-balance.ensures.value in
     let difference = rw c.in_ok-balance.ensures.ok_part at c.try_sub.ensures in
-    balance_set parts items _ _ _ _ _ c.args.block c.in_ok-balance.field-0 _ c.args.self.now c.self.view_is (difference.1 ∙ ap (λ (x : Amount). minus x (parts c.args.amount)) (sym here))
+    balance_set parts items _ _ _ _ _ c.args.block c.in_ok-balance.field-0 _ c.args.self.now c.self.view_is
+    (difference.1 ∙ ap (λ (x : Amount). minus x (parts c.args.amount)) (sym here))

@@ -1,4 +1,4 @@
-use Rattle.fixed_worth.proofs.Common.{◌-◌, slice_range, arith, with_items_is, places, common_steps}
+use Rattle.fixed_worth.proofs.Common.{slice_range, arith, with_items_is, places, common_steps}
 use Rattle.check_pit.proofs.HeldBytes.{read_more}
 use Rattle.check_pit.proofs.stream_bytes.StreamBytes.read_from.Goals as goal
 

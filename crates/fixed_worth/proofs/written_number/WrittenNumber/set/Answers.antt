@@ -5,7 +5,8 @@ use Rattle.fixed_worth.proofs.written_number.WrittenNumber.set.Goals as goal
 pub loop-wide-init : goal.loop-wide-init
 loop-wide-init c =
     record {
-      whole = sym (append-nil (decimal c.args.n)) ∙ ap (λ r. decimal c.args.n ++ r) (sym (drop_all 39 c.self.inside.bytes (omega (arith, c.self.told))));
+      whole = sym (append-nil (decimal c.args.n))
+          ∙ ap (λ r. decimal c.args.n ++ r) (sym (drop_all 39 c.self.inside.bytes (omega (arith, c.self.told))));
       room = length-decimal-le_wide 39 c.args.n (omega arith) (omega arith) (omega arith);
       small = omega arith;
       within = omega arith;

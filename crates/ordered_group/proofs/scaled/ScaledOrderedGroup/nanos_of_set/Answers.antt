@@ -5,4 +5,17 @@ use Rattle.ordered_group.proofs.scaled.ScaledOrderedGroup.nanos_of_set.Goals as 
 use Rattle.std.proofs.lemmas.Grind.{common_steps}
 
 pub returns : goal.returns
-returns c = grind (arith, common_steps, to_z-of_z, to_z, of_z, pos, ap₂, unsigned_abs, quotient_with, machine_quotient, told_exactly, ℤ)
+returns c = grind (
+  arith,
+  common_steps,
+  to_z-of_z,
+  to_z,
+  of_z,
+  pos,
+  ap₂,
+  unsigned_abs,
+  quotient_with,
+  machine_quotient,
+  told_exactly,
+  ℤ,
+)

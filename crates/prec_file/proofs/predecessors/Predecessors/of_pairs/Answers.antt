@@ -4,9 +4,17 @@ use Rattle.prec_file.proofs.Rows.{above_are, above_told}
 use Rattle.prec_file.proofs.predecessors.Predecessors.of_pairs.Goals as goal
 use Rattle.prec_file.proofs.predecessors.Predecessors.of_pairs.Goals.{In_ok-predecessors}
 
-held : (c : In_ok-predecessors) → AreAbove c.args.n c.args.pairs.now c.in_ok-firsts.firsts.items c.in_ok-predecessors.predecessors.items
+held : (c : In_ok-predecessors)
+    → AreAbove c.args.n c.args.pairs.now c.in_ok-firsts.firsts.items c.in_ok-predecessors.predecessors.items
 held c = record {
-  rests = record { blocks = c.requires.blocks; few = omega (arith, c.requires.few); known = c.requires.known; rising = c.requires.rising; apart = c.requires.apart };
+  rests = record {
+    blocks = c.requires.blocks;
+    few = omega (arith, c.requires.few);
+    known = c.requires.known;
+    rising =
+        c.requires.rising;
+    apart = c.requires.apart;
+  };
   few = c.requires.few;
   predecessors = c.in_ok-predecessors.ensures;
   firsts = c.in_ok-firsts.ensures;

@@ -24,4 +24,5 @@ returns g c =
     IfOk-then c.collect.result _ _ c.collect.ensures (λ v h.
     let chain = rw (c.map.ensures.base, c.map.ensures.f) at h.1 in
     let places = chain.1 ∙ (λ i. nat_range (ends.0 i) (ends.1 i)) ∙ ap (range_with_len 0) whole in
-    h.2 ∙ AllZip-map (worth_at c.args.self.now c.args.factor) chain.0 h.0 chain.2 ∙ ap (map (worth_at c.args.self.now c.args.factor)) places)
+    h.2 ∙ AllZip-map (worth_at c.args.self.now c.args.factor) chain.0 h.0 chain.2
+    ∙ ap (map (worth_at c.args.self.now c.args.factor)) places)

@@ -7,12 +7,27 @@ use Rattle.shells.proofs.shell_series.Series.put.Goals as goal
 pub invariant_of-self : goal.invariant_of-self
 invariant_of-self c =
     let new = c.give_shells.new.shells in
-    let size : c.self.inside.shells.len ≡ length new = search (rules, c.give_shells.ensures.size, c.as_mut_slice.ensures.value, c.as_mut_slice.ensures.len) in
-    let old : SeriesView = record { pairs = c.self.inside.rests.pairs; prices = c.self.inside.prices; factors = c.self.inside.factors.items; shells = c.self.inside.shells.items } in
-    let next : SeriesView = record { pairs = c.self.inside.rests.pairs; prices = c.self.inside.prices; factors = c.push_reserved.new.self.items; shells = new } in
-    let above : IsAboveAll old.factors c.args.k = subst (λ (v : SeriesView). IsAboveAll v.factors c.args.k) (sym c.self.view_is) c.requires.above in
-    let best : IsBest (mine_at old.pairs old.prices c.args.k) (holds_of c.args.pit.now) = subst (λ (v : SeriesView). IsBest (mine_at v.pairs v.prices c.args.k) (holds_of c.args.pit.now)) (sym c.self.view_is) c.requires.best in
-    let room : length old.factors < 64 = subst (λ (v : SeriesView). length v.factors < 64) (sym c.self.view_is) c.requires.room in
+    let size : c.self.inside.shells.len ≡ length new = search
+    (rules, c.give_shells.ensures.size, c.as_mut_slice.ensures.value, c.as_mut_slice.ensures.len) in
+    let old : SeriesView = record {
+      pairs = c.self.inside.rests.pairs;
+      prices = c.self.inside.prices;
+      factors = c.self.inside.factors.items;
+      shells = c.self.inside.shells.items;
+    } in
+    let next : SeriesView = record {
+      pairs = c.self.inside.rests.pairs;
+      prices = c.self.inside.prices;
+      factors = c.push_reserved.new.self.items;
+      shells = new;
+    } in
+    let above : IsAboveAll old.factors c.args.k = subst (λ (v : SeriesView). IsAboveAll v.factors c.args.k)
+    (sym c.self.view_is) c.requires.above in
+    let best : IsBest (mine_at old.pairs old.prices c.args.k) (holds_of c.args.pit.now) = subst
+    (λ (v : SeriesView). IsBest (mine_at v.pairs v.prices c.args.k) (holds_of c.args.pit.now))
+    (sym c.self.view_is) c.requires.best in
+    let room : length old.factors < 64 = subst (λ (v : SeriesView). length v.factors < 64) (sym c.self.view_is)
+    c.requires.room in
     let pushed : IsPushed old next c.args.k (holds_of c.args.pit.now) = record {
       pairs = search rules;
       prices = search rules;

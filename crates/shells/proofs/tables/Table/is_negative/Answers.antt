@@ -8,7 +8,8 @@ pub returns-in-Plain : goal.returns-in-Plain
 returns-in-Plain c =
     let fits : SFits w64 c.get.result = search rules in
     let l : c.args.b < length c.in-Plain.revenue.items = rw c.in-Plain.is at c.requires.block in
-    let is : c.get.result ≡ number_at c.in-Plain.revenue.items c.args.b = c.get.ensures.value ∙ c.index.ensures ∙ get_or_default c.in-Plain.revenue.items c.args.b _ (pos 0) l in
+    let is : c.get.result ≡ number_at c.in-Plain.revenue.items c.args.b = c.get.ensures.value ∙ c.index.ensures
+    ∙ get_or_default c.in-Plain.revenue.items c.args.b _ (pos 0) l in
     rw (c.in-Plain.is, to_z-of_z w64 c.get.result fits, is) (one_sign (number_at c.in-Plain.revenue.items c.args.b))
 
 pub returns-in-Treated : goal.returns-in-Treated

@@ -11,5 +11,6 @@ returns-clause-part c =
       ascending = c.requires.ascending;
       below = c.requires.below;
       size = c.requires.size;
-      places = subst (λ (n : ℕ). ArePlacesAmong n c.args.kept.now (length c.args.kept.now) c.in_ok-places.places.items) c.len-blocks.ensures.is c.in_ok-places.ensures;
+      places = subst (λ (n : ℕ). ArePlacesAmong n c.args.kept.now (length c.args.kept.now)
+          c.in_ok-places.places.items) c.len-blocks.ensures.is c.in_ok-places.ensures;
     })

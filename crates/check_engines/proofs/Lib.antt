@@ -1,0 +1,15 @@
+pub mod Counted
+pub mod Told
+pub mod Judged
+pub mod Nested
+pub mod Answered
+pub mod Alone
+pub mod Fitting
+pub mod Unread
+pub mod Complete
+pub mod HeaderPrices
+pub mod HeaderAnswers
+pub mod Streamed
+pub mod SoundLines
+pub mod StreamAnswers
+pub mod SlopePairs

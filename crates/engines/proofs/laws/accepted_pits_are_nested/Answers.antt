@@ -1,5 +1,0 @@
-use Rattle.engines.proofs.Nested.{accepted_are_nested}
-use Rattle.engines.proofs.laws.accepted_pits_are_nested.Goals as goal
-
-pub returns : goal.returns
-returns c = accepted_are_nested

@@ -1,5 +1,0 @@
-use Rattle.engines.proofs.Reduced.{reduced_decide}
-use Rattle.engines.proofs.laws.reduced_pairs_decide.Goals as goal
-
-pub returns : goal.returns
-returns c = reduced_decide

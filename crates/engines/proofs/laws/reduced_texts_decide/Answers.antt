@@ -1,5 +1,0 @@
-use Rattle.engines.proofs.Reduced.{reduced_texts}
-use Rattle.engines.proofs.laws.reduced_texts_decide.Goals as goal
-
-pub returns : goal.returns
-returns c = reduced_texts

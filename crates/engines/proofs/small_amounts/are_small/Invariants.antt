@@ -1,9 +1,0 @@
-use Rattle.std.proofs.Common.{ℕ, ◌<◌}
-use Rattle.ordered_group.specs.Prelude.{amount_at}
-use Rattle.engines.specs.Small.{IsSmall}
-use Rattle.engines.proofs.small_amounts.are_small.Given as goal
-
-abbrev pub invariant-loop-arc : goal.invariant-loop-arc
-invariant-loop-arc g l = record {
-  small : (k : ℕ) → k < l.arc → IsSmall (amount_at l.carried k);
-}

@@ -1,4 +1,0 @@
-use Rattle.pseudoflow.proofs.units.greatest_common_divisor.Given as goal
-
-abbrev pub decreases-loop-rest : goal.decreases-loop-rest
-decreases-loop-rest l = l.rest

@@ -1,6 +1,0 @@
-use Rattle.std.proofs.Common.{take}
-use Rattle.shell_engines.specs.SettledSeries.{IsSettled}
-use Rattle.shell_engines.proofs.settled_series.settle.Given as goal
-
-abbrev pub invariant-loop-place : goal.invariant-loop-place
-invariant-loop-place g l = IsSettled l.fn.mine.predecessors.pairs l.fn.mine.prices (take l.place l.fn.mine.factors.items) l.shells.series l.shells.rows.items

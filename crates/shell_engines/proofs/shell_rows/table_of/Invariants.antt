@@ -1,6 +1,0 @@
-use Rattle.std.proofs.Common.{◌≡◌, take}
-use Rattle.shell_engines.specs.ShellTable.{shell_table_text}
-use Rattle.shell_engines.proofs.shell_rows.table_of.Given as goal
-
-abbrev pub invariant-loop-i : goal.invariant-loop-i
-invariant-loop-i l = l.text.items ≡ shell_table_text (take l.i l.rows)
