@@ -10,6 +10,7 @@ _pit() {
         "check --upit") files=1 ;;
         "check --blocks") files=1 ;;
         "check --settings") files=1 ;;
+        "check --threads") files=1 ;;
         "slopes --blocks") files=1 ;;
         "slopes --pattern") words="five nine cone: settings" ;;
         "slopes --up") words="plus minus" ;;
@@ -23,10 +24,12 @@ _pit() {
         "solve --group") words="pair scaled worth" ;;
         "solve --steps") : ;;
         "solve --workers") : ;;
+        "solve --threads") files=1 ;;
         "solve --trace") files=1 ;;
         "solve --room") : ;;
         "solve --periods") files=1 ;;
         "solve --uses") files=1 ;;
+        "solve --pit") files=1 ;;
         "shells --prec") files=1 ;;
         "shells --blocks") files=1 ;;
         "shells --settings") files=1 ;;
@@ -55,12 +58,14 @@ _pit() {
         "schedule --uses") files=1 ;;
         "schedule --factor") : ;;
         "schedule --best") files=1 ;;
+        "schedule --pit") files=1 ;;
         "bound --prec") files=1 ;;
         "bound --upit") files=1 ;;
         "bound --blocks") files=1 ;;
         "bound --settings") files=1 ;;
         "bound --periods") files=1 ;;
         "bound --uses") files=1 ;;
+        "bound --pit") files=1 ;;
         "replay --prec") files=1 ;;
         "replay --upit") files=1 ;;
         "replay --blocks") files=1 ;;
@@ -69,14 +74,14 @@ _pit() {
         "replay --group") words="pair scaled worth" ;;
         *)
             case "${COMP_WORDS[1]}" in
-            check) words="--prec --upit --blocks --settings --verbose -h --help" files=1 ;;
+            check) words="--prec --upit --blocks --settings --threads --verbose -h --help" files=1 ;;
             slopes) words="--blocks --pattern --up --settings --reduce --verbose -h --help" ;;
-            solve) words="--prec --upit --blocks --settings --factor --method --group --steps --workers --progress --verbose --trace --room --periods --uses -h --help" ;;
+            solve) words="--prec --upit --blocks --settings --factor --method --group --steps --workers --threads --progress --verbose --trace --room --periods --uses --pit -h --help" ;;
             shells) words="--prec --blocks --settings --method --steps --workers --by-block --ways --progress --verbose -h --help" ;;
             report) words="--prec --blocks --settings --method --steps --workers --by-block --ways --progress --verbose -h --help" ;;
             value) words="--prec --upit --blocks --settings --factor --best --verbose -h --help" files=1 ;;
-            schedule) words="--prec --upit --blocks --settings --periods --uses --factor --best --verbose -h --help" files=1 ;;
-            bound) words="--prec --upit --blocks --settings --periods --uses --verbose -h --help" files=1 ;;
+            schedule) words="--prec --upit --blocks --settings --periods --uses --factor --best --pit --verbose -h --help" files=1 ;;
+            bound) words="--prec --upit --blocks --settings --periods --uses --pit --verbose -h --help" files=1 ;;
             replay) words="--prec --upit --blocks --settings --factor --group --verbose -h --help" files=1 ;;
             esac
             case "$word" in -*) files= ;; *) words= ;; esac ;;

@@ -25,6 +25,7 @@ _pit() {
             '--upit[What each block is worth]:upit:_files' \
             '--blocks[The blocks with the columns that the settings name]:blocks:_files' \
             '--settings[The columns of revenues and costs, or of a mill'\''s charges or several ways to treat blocks]:settings:_files' \
+            '--threads[How many threads read --prec and --upit at once, from 1 to 64 (by default as many as there are processors, at most 8, and 1 where a text has less than 2 MB)]:threads:_files' \
             '--verbose[Reports on standard error which file failed, and the system'\''s reason]' \
             '-h[Print help (see a summary with '\''-h'\'')]' '--help[Print help (see a summary with '\''-h'\'')]' '*:file:_files' ;;
         slopes) _arguments '--blocks[Where the blocks are]:blocks:_files' \
@@ -43,12 +44,14 @@ _pit() {
             '--group[What the flow counts]:group:(pair scaled worth)' \
             '--steps[The most steps of push-relabel, or turns of pseudoflow, from 1 to 1099511627776 (by default 1000000000 steps and 1099511627776 turns); without --method it chooses push-relabel]:steps: ' \
             '--workers[The threads of push-relabel, from 1 to 64 (1 by default), which share one lock]:workers: ' \
+            '--threads[How many threads read --prec and --upit at once, from 1 to 64 (by default as many as there are processors, at most 8, and 1 where a text has less than 2 MB)]:threads:_files' \
             '--progress[Reports on standard error, once a second, how far the run is]' \
             '--verbose[Reports on standard error which file failed, and the system'\''s reason]' \
             '--trace[Writes each step of push-relabel'\''s run to this file, and replaces what is in it]:trace:_files' \
             '--room[The most steps of a trace, from 1 to 16777216 (1048576 by default); no effect without --trace]:room: ' \
             '--periods[Solves the mine of blocks and periods]:periods:_files' \
             '--uses[With --periods, the blocks with the columns of what they use]:uses:_files' \
+            '--pit[A certificate of a best pit of the mine, at the same price, as `pit solve` writes it and `pit check` judges it]:pit:_files' \
             '-h[Print help (see a summary with '\''-h'\'')]' '--help[Print help (see a summary with '\''-h'\'')]' ;;
         shells) _arguments '--prec[The predecessors of each block]:prec:_files' \
             '--blocks[The blocks with the columns that the settings name]:blocks:_files' \
@@ -88,6 +91,7 @@ _pit() {
             '--uses[The blocks with the columns of what they use]:uses:_files' \
             '--factor[The share of the revenues that counts, in thousandths, from 0 to 10000, with --blocks and no --upit]:factor: ' \
             '--best[A certificate of blocks and periods, which bounds the worth of every schedule]:best:_files' \
+            '--pit[A certificate of a best pit of the mine, at the same price, as `pit solve` writes it and `pit check` judges it]:pit:_files' \
             '--verbose[Reports on standard error which file failed, and the system'\''s reason]' \
             '-h[Print help (see a summary with '\''-h'\'')]' '--help[Print help (see a summary with '\''-h'\'')]' '*:file:_files' ;;
         bound) _arguments '--prec[The predecessors of each block]:prec:_files' \
@@ -96,6 +100,7 @@ _pit() {
             '--settings[The columns of revenues and costs, or of a mill'\''s charges or several ways to treat blocks]:settings:_files' \
             '--periods[What periods weigh, which columns have what blocks use of resources, what each period has, and the multipliers]:periods:_files' \
             '--uses[The blocks with the columns of what they use]:uses:_files' \
+            '--pit[A certificate of a best pit of the mine, at the same price, as `pit solve` writes it and `pit check` judges it]:pit:_files' \
             '--verbose[Reports on standard error which file failed, and the system'\''s reason]' \
             '-h[Print help (see a summary with '\''-h'\'')]' '--help[Print help (see a summary with '\''-h'\'')]' '*:file:_files' ;;
         replay) _arguments '--prec[The predecessors of each block]:prec:_files' \

@@ -148,6 +148,13 @@ def said(offsets, pattern, given):
     )
 
 
+def settings_of_all_blocks(pattern):
+    """The offsets as settings of `pit slopes --pattern settings`."""
+    return "offsets = [\n%s]\n" % "".join(
+        "    [%d, %d, %d],\n" % offset for offset in pattern.offsets
+    )
+
+
 def settings_of_mine(offsets, asked, patterns, size):
     """The slopes of a mine's regions. Which column says the region of a block is for the reader to add."""
     names = ["region %d, %s degrees" % each for each in enumerate(asked)]
@@ -187,7 +194,7 @@ def main():
     else:
         print("# %s degrees in blocks of %g x %g x %g metres" % (*given.SLOPE, *size))
         print("# " + str(patterns[0]))
-        print(offsets.settings(patterns[0]), end="")
+        print(settings_of_all_blocks(patterns[0]), end="")
     for pattern in patterns:
         print(said(offsets, pattern, given), file=sys.stderr)
 

@@ -63,7 +63,7 @@ PAGES = (
     "CONTRIBUTING.md",
     "docs/*.md",
     "bench/*.md",
-    "crates/README.md",
+    "crates/*.md",
     "python/README.md",
     "tests/cases/README.md",
 )

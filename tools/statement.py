@@ -261,15 +261,29 @@ def part(sources, title, words, definitions):
     return lines
 
 
-def leaves(cone):
+def number_of(top, name, path):
+    """The number of a constant, as a contract of its file states it; none of a type."""
+    if not name.isupper():
+        return ""
+    found = re.search(r"\{ %s ≡ (\d+) \}" % name, (top / path).read_text(encoding="utf-8"))
+    if not found:
+        raise SystemExit("%s: no contract says which number %s is" % (path, name))
+    return ", which is %s," % format(int(found[1]), ",")
+
+
+def leaves(sources, cone):
     """What the definitions take from elsewhere: types and constants of the code, and words of the library."""
     lines = [
         "# Taken from elsewhere",
         "",
-        "Types and constants of the code, each with its file:",
+        "Types and constants of the code, each with its file. The number of a constant is the one that a contract in that file",
+        "states, which is proved with the rest:",
         "",
     ]
-    lines += ["- `%s` in [`%s`](../%s)" % (name, path, path) for name, path in sorted(cone.types)]
+    lines += [
+        "- `%s`%s in [`%s`](../%s)" % (name, number_of(sources.top, name, path), path, path)
+        for name, path in sorted(cone.types)
+    ]
     return lines + [
         "",
         "Words of the language's library: "
@@ -301,12 +315,12 @@ def page(sources):
     clause, module = clause_of(sources.top / ENGINE, "check_engine", "answer")
     every = cone_of(sources, clause, module)
     accepted = cone_of(
-        sources, "WritesAccepted", sources.modules["engines.specs.Checking"]
+        sources, "WritesAccepted", sources.modules["check_engines.specs.Checking"]
     ).definitions
     rest = {key: every.definitions[key] for key in every.definitions if key not in accepted}
     bounding, module = clause_of(sources.top / BOUNDS, "bound_engine", "answer")
     bound = cone_of(sources, bounding, module)
-    nested = cone_of(sources, "AcceptedAreNested", sources.modules["engines.specs.Nested"])
+    nested = cone_of(sources, "AcceptedAreNested", sources.modules["check_engines.specs.Nested"])
     two = without(nested, every)
     own = {key: it for key, it in without(bound, every).items() if key not in two}
     unsaid = wordless(sources, [*every.definitions.values(), *two.values(), *own.values()])
@@ -314,8 +328,8 @@ def page(sources):
         raise SystemExit("\n".join(unsaid))
     files = {name for name, _ in accepted}
     lines = [
-        "# What you have to believe, in %d definitions; of a bound, in %d"
-        % (len(every.definitions), len(bound.definitions)),
+        "# What you have to believe: of an `ACCEPTED` %d definitions, with each refusal %d; of a bound %d"
+        % (len(accepted) + len(two), len(every.definitions) + len(two), len(bound.definitions)),
         "",
         HEAD_WORDS,
         "",
@@ -351,10 +365,10 @@ def page(sources):
     )
     every.types |= bound.types | nested.types
     every.library |= bound.library | nested.library
-    return "\n".join(lines + leaves(every))
+    return "\n".join(lines + leaves(sources, every))
 
 
-ENGINE = "crates/engines/src/checking_engine.rt"
+ENGINE = "crates/check_engines/src/checking_engine.rt"
 BOUNDS = "crates/bound_engines/src/bounding_engine.rt"
 BOUND_WORDS = """Whoever relies on a bound on the worth of every schedule has to believe %d definitions: %d of those above, and these.
 The last but those of its line is `IsBounded`."""

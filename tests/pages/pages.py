@@ -21,6 +21,7 @@ CITING = (
     "docs/ARCHITECTURE.md",
     "docs/ASSURANCE.md",
     "crates/README.md",
+    "crates/FILES.md",
 )
 LONGEST_SENTENCE = 40
 MOST_WORDS = {
@@ -30,7 +31,8 @@ MOST_WORDS = {
     "docs/ASSURANCE.md": 2_000,
     "bench/RESULTS.md": 2_800,
 }
-UNREAD = ("bench/LAST_RUN.md", "docs/STATEMENT.md")  # whose sentences may be longer
+# Pages that are generated, and whose sentences may be longer.
+UNREAD = ("bench/LAST_RUN.md", "docs/STATEMENT.md", "crates/FILES.md")
 SENTENCE = re.compile(r"(?<=[.!?:])\s+")
 LINK = re.compile(r"\]\(([^()\s]+)\)")
 QUOTED = re.compile(r"`([^`\n]+)`")
@@ -38,7 +40,7 @@ NAME = re.compile(r"[A-Za-z_][\w-]*(?:::[A-Za-z_][\w-]*)*")
 MACHINE_PATH = re.compile(r"(?<![\w.}])/(?:work|home|root|tmp)/[\w./-]*")
 # `A`, `B` in `FILE`
 IN_FILE = re.compile(r"((?:`[^`]+`(?:, | and ))*`[^`]+`) in `([\w/]+\.(?:antt|rt))`")
-DEFINES = r"^ *(?:(?:pub|abbrev|unfoldable|record|data|fn|struct|enum|trait|const|ghost) +)*%s\b"
+DEFINES = r"^ *(?:(?:pub(?:\(crate\))?|abbrev|unfoldable|record|data|fn|struct|enum|trait|const|ghost) +)*%s\b"
 
 
 def without_code(text):
@@ -85,7 +87,18 @@ def is_known(top, quoted, texts, words):
         return (top / quoted).exists()
     if quoted.endswith((".antt", ".rt")) and "/" not in quoted:
         return any(file.name == quoted for file in texts)
-    return not NAME.fullmatch(quoted) or quoted.split("::")[-1] in words
+    if not NAME.fullmatch(quoted):
+        return True
+    *rooms, name = quoted.split("::")
+    return name in words and all(is_room(top, room, texts, words) for room in rooms)
+
+
+def is_room(top, room, texts, words):
+    """Whether what stands before `::` is a crate or a library, a source file, or a type."""
+    if room[0].isupper():
+        return room in words
+    listed = re.findall(r"\w+", (top / "crates.txt").read_text())
+    return room in listed or room in ("core", "std") or any(file.stem == room for file in texts)
 
 
 def unknown_names(top):
@@ -95,6 +108,14 @@ def unknown_names(top):
     words = set(
         re.findall(r"[\w-]+", "\n".join([*texts.values(), *(file.read_text() for file in others)]))
     )
+    recipes = [page for page in (top / "CONTRIBUTING.md",) if page.exists()]
+    wrong += [
+        "CONTRIBUTING.md: there is no %s" % quoted
+        for page in recipes
+        for quoted in QUOTED.findall(without_code(page.read_text()))
+        if ("::" in quoted or quoted.startswith("crates/"))
+        and not is_known(top, quoted, texts, words)
+    ]
     for page in (top / name for name in CITING if (top / name).exists()):
         text = without_code(page.read_text())
         wrong += [
@@ -133,6 +154,41 @@ def misplaced_crates(top):
                     "crates/README.md: %s isn't there, or below a crate that it depends on" % name
                 )
     return wrong
+
+
+OPTION = re.compile(r'_option\(\s*alloc,\s*"([\w-]+)"|\.long\("([\w-]+)"\)')
+OPTION_ROW = re.compile(r"^\| `--([\w-]+)` \|.*", re.M)
+
+
+def wrong_options(top):
+    """The options of the program that the table in the map of the crates lacks, or has and there are none; and the rows that name a file
+    and not what is in it, which `unknown_names` compares with the code."""
+    code = "".join(file.read_text() for file in top.glob("crates/command_line/src/*.rt"))
+    options = {one or other for one, other in OPTION.findall(code)}
+    page = (top / "crates" / "README.md").read_text()
+    rows = {row[1]: row[0] for row in OPTION_ROW.finditer(page)}
+    wrong = ["lacks --%s" % name for name in sorted(options - set(rows))]
+    wrong += ["has --%s, which is no option" % name for name in sorted(set(rows) - options)]
+    wrong += [
+        "names a file at --%s and not what is in it" % name
+        for name, row in rows.items()
+        if len(re.findall(r"\.rt`", row)) != len(IN_FILE.findall(row)) or ".rt`" not in row
+    ]
+    return ["crates/README.md " + one for one in wrong]
+
+
+def wrong_counts(top):
+    """The numbers of edits in ASSURANCE that aren't those of the crates."""
+    page = top / "docs" / "ASSURANCE.md"
+    planted = (file.read_text() for file in top.glob("crates/*/planted.edits"))
+    said = (
+        "`crates/NAME/edits/` | {:,} edits".format(len(list(top.glob("crates/*/edits/*")))),
+        "`crates/NAME/planted.edits` | {:,} others".format(
+            sum(len(re.findall(r"^edit: ", text, re.M)) for text in planted)
+        ),
+    )
+    text = page.read_text() if page.exists() else None
+    return ["docs/ASSURANCE.md lacks: %s" % one for one in said if text and one not in text]
 
 
 def paragraphs(text):

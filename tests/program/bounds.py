@@ -4,7 +4,8 @@ built program against an enumeration, which shares no line with it and counts in
 Mines are those of schedules.py, five blocks and three periods, half of them with prices at a factor. Each of the 4^5 ways to
 give every block a period or none is looked at. The greatest worth above the multipliers of those that keep precedence and waits, and all
 capacities at their multipliers, is the bound that must come; and what each feasible one is worth may not exceed it. A schedule of
-schedules.py is held against the bound too. In half of the mines blocks wait for others.
+schedules.py is held against the bound too. In half of the mines blocks wait for others. All this is tried again within the ultimate
+pit: its blocks alone bound every schedule of the whole mine, and a certificate of it that `pit check` refuses gives that answer.
 """
 import os
 import random
@@ -28,7 +29,7 @@ from program.schedules import (
 VALUES = "--prec m.prec --upit m.upit --uses m.blocks --periods p.toml".split()
 PRICES = "--prec m.prec --blocks m.blocks --settings s.toml --periods p.toml".split()
 SETTINGS = "revenue = %d\ncost = %d\n"
-DUG_OR_NOT = list(product(range(PERIODS + 1), repeat=BLOCKS))  # PERIODS where a block isn't dug
+MINE = "prec upit blocks settings".split()  # the options that name a mine, without its periods
 
 
 def multipliers_of(chance):
@@ -66,11 +67,11 @@ def bound_of(plan, worths, multipliers):
             for t in range(PERIODS)
         ]
         + [0]
-        for b in range(BLOCKS)
+        for b in range(len(worths))
     ]
     keeping = [
-        periods
-        for periods in DUG_OR_NOT
+        periods  # PERIODS where a block isn't dug
+        for periods in product(range(PERIODS + 1), repeat=len(worths))
         if all(periods[p] <= periods[b] for b, p in plan.pairs)
         and all(
             a == b or periods[b] == PERIODS or periods[a] + plan.lag <= periods[b]
@@ -96,7 +97,7 @@ def bound_of(plan, worths, multipliers):
 def is_within(plan, periods):
     """Whether no period uses more of a resource than it has."""
     return all(
-        sum(plan.uses[r][b] for b in range(BLOCKS) if periods[b] == t)
+        sum(plan.uses[r][b] for b, period in enumerate(periods) if period == t)
         <= 10**6 * plan.capacities[r][t]
         for r in range(RESOURCES)
         for t in range(PERIODS)
@@ -124,6 +125,52 @@ def changed(certificate):
             yield "".join(lines[:place] + lines[place + 1 :])
 
 
+def part_of(plan, worths, kept):
+    """The plan of these blocks alone, with numbers of their own, and what they are worth: a block doesn't wait for one outside."""
+    numbers = {b: number for number, b in enumerate(kept)}
+    part = plan._replace(
+        pairs=[(numbers[b], numbers[p]) for b, p in plan.pairs if b in numbers and p in numbers],
+        uses=[[uses[b] for b in kept] for uses in plan.uses],
+        waits=[[numbers.get(column[b], numbers[b]) for b in kept] for column in plan.waits],
+    )
+    return part, [worths[b] for b in kept]
+
+
+def wrong_within(program, plan, worths, multipliers, words, folder):
+    """What the program answers wrongly where the mine of nodes is made of the blocks of the ultimate pit alone."""
+    files, at = words
+    mine = [w for o, n in zip(files[::2], files[1::2]) if o[2:] in MINE for w in (o, n)]
+    found = run(program, ["solve", *mine, *at], folder)[1].decode()
+    (folder / "pit.cert").write_text(found)
+    kept = [int(line.split()[1]) for line in found.splitlines() if line.startswith("PIT ")]
+    bound, _ = bound_of(*part_of(plan, worths, kept), multipliers)
+    best = bound_of(plan, worths, multipliers)[1]
+    if best > bound:
+        return "the enumeration has a schedule of %d above the bound %d within the pit" % (
+            best,
+            bound,
+        )
+    within = ["--pit", "pit.cert"]
+    solved = run(program, ["solve", *files, *at, *within], folder)
+    (folder / "c.cert").write_bytes(solved[1])
+    must = 0, b"BOUND %s\n" % decimal(bound, 15).encode(), b""
+    answer = run(program, ["bound", *files, *within, "c.cert"], folder)
+    nodes = b"BLOCKS %d\n" % (PERIODS * len(kept))
+    if solved[0] or nodes not in solved[1] or answer != must:
+        return "%s where %s must come within the pit, by %s" % (answer, must, solved)
+    must = beside(plan, worths, bound)
+    answer = run(program, ["schedule", *files, *within, "--best", "c.cert", "s.txt"], folder)
+    if answer != must:
+        return "%s where %s must come within the pit, by %s" % (answer, must, solved)
+    for other in changed(found) if len(kept) % 2 else ():
+        (folder / "pit.cert").write_text(other)
+        refused = run(program, ["check", *mine, "pit.cert"], folder)
+        answer = run(program, ["bound", *files, *within, "c.cert"], folder)
+        if refused[0] and answer != refused:
+            return "%s of a pit where check says %s, by %r" % (answer, refused, other)
+    return ""
+
+
 def wrong_in(program, seed, folder):
     """What the program answers wrongly of a mine whose files are made in a folder."""
     chance = random.Random("bound %d" % seed)
@@ -141,7 +188,9 @@ def wrong_in(program, seed, folder):
     if best > bound:
         return "the enumeration has a schedule of %d above the bound %d" % (best, bound)
     must = 0, b"BOUND %s\n" % decimal(bound, 15).encode(), b""
-    solved = run(program, ["solve", *files, *at], folder)
+    # the machine lists the pairs of so few nodes, and pseudoflow searches them by those of the blocks
+    by = ["--method", "pseudoflow"] if seed % 4 < 2 else []
+    solved = run(program, ["solve", *files, *at, *by], folder)
     certificate = solved[1].decode()
     (folder / "c.cert").write_text(certificate)
     answer = run(program, ["bound", *files, "c.cert"], folder)
@@ -160,7 +209,7 @@ def wrong_in(program, seed, folder):
         told = run(program, words, folder)
         if told != (answer if answer != must else compared):
             return "%s of a schedule where bound says %s, by %r" % (told, answer, other)
-    return ""
+    return wrong_within(program, plan, worths, multipliers, (files, at), folder)
 
 
 def wrong(program, seed):

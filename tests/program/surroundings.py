@@ -245,6 +245,48 @@ def more_pairs_than_a_list_has(program):
         yield None if answer == wanted else "more pairs, %s: %r" % (what, answer)
 
 
+def square_over_periods(wide, periods, reach):
+    """Blocks, settings, periods and a certificate: one block of ore below rests on a square above, and is dug with it in the last of
+    these periods, of equal weights."""
+    count, ore = 2 * wide * wide, wide * (wide + 1) // 2
+    places = [(x, y, z) for z in range(2) for y in range(wide) for x in range(wide)]
+    span = range(-reach, reach + 1)
+    above = sorted(wide * wide + ore + wide * y + x for y in span for x in span)
+    last = (periods - 1) * count
+    unit = 10**15
+    lines = ["PITCERT 1", "BLOCKS %d" % (periods * count), "PRICE 1000", "GROUP WORTH"]
+    lines += ["PIT %d" % (last + b) for b in [ore, *above]]
+    lines += ["SOURCE %d %d 0" % (last + ore, unit * len(above))]
+    lines += ["REST %d %d %d 0" % (last + ore, last + b, unit) for b in above]
+    lines += ["SINK %d %d 0" % (last + b, unit) for b in above]
+    return {
+        "b": "".join(
+            "%d %d %d %d %d 1\n" % (b, *place, 5_000 * (b == ore)) for b, place in enumerate(places)
+        ),
+        "s": "revenue = 0\ncost = 1\ntonnes = 1\nfactors = [1000]\nslopes = [%r]\n"
+        % [[x, y, 1] for x in span for y in span],
+        "p": "weights = %r\nresources = [1]\ncapacities = [%r]\nmultipliers = [%r]\n"
+        % ([1_000_000] * periods, [0] * periods, [0] * periods),
+        "c": "\n".join([*lines, "END", ""]),
+        "less": "\n".join([*lines[: 4 + len(above)], *lines[5 + len(above) :], "END", ""]),
+    }
+
+
+def more_node_pairs_than_a_list_has(program):
+    """A bound is told of nodes that have more than 2^27 pairs, with less memory than a list of them takes, for none is made; and a
+    certificate that lacks a block of its pit is refused."""
+    wide, periods, reach, kilobytes = 100, 36, 10, 1 << 19
+    words = ["bound", "--blocks", "b", "--settings", "s", "--periods", "p"]
+    with room_with(square_over_periods(wide, periods, reach)) as room:
+        told, refused = (
+            run_within(kilobytes, program, [*words, file], room) for file in ("c", "less")
+        )
+    yield None if told == (0, b"BOUND 4558\n", b"") else "more node pairs: %r" % (told,)
+    yield None if refused[0] == 1 and refused[1].startswith(
+        b"REFUSED NotClosed"
+    ) else "more node pairs, a block too few: %r" % (refused,)
+
+
 def first_lines_of_progress(program, words, folder):
     """What a run tells on standard error until its second line; then it is ended."""
     with subprocess.Popen(
@@ -309,6 +351,7 @@ def try_all(program):
             with_files_of_a_limit,
             more_pairs_than_may_be,
             more_pairs_than_a_list_has,
+            more_node_pairs_than_a_list_has,
             how_far_the_machine_is,
             the_solver_by_size,
         )

@@ -8,10 +8,11 @@ import sys
 import tempfile
 from pathlib import Path
 
+import files_page
 import manual
 import statement
 from edits import edit_groups, must_fail
-from pages import imports, pages, site
+from pages import examples, imports, pages, site
 
 CODE = """//! A crate for the tests of the scripts.
 #![tactic(auto)]
@@ -75,7 +76,7 @@ def repository(top, room):
     shared = [
         file.relative_to(top)
         for file in (top / "python" / "pitplan").rglob("*.py")
-        if file.name in ("__init__.py", "door.py", "machine.py")
+        if file.name in ("__init__.py", "public_names.py", "machine.py")
     ]
     for file in ("build", "run-example", "tests/run", *scripts, *shared):
         (tree / file).parent.mkdir(parents=True, exist_ok=True)
@@ -256,14 +257,18 @@ def version_is_up_to_date(top):
 
 
 def pages_are_right(top):
-    """Whether all links of the pages lead somewhere, what they name is in the code, no sentence or page is too long, and none names a path of a machine."""
+    """Whether all links of the pages lead somewhere, what they name is in the code, no sentence or page is too long, and none names a path of a machine;
+    and whether crates/FILES.md is what the heads of the files say."""
     wrong = (
         pages.broken_links(top)
         + pages.unknown_names(top)
         + pages.misplaced_crates(top)
+        + pages.wrong_options(top)
+        + pages.wrong_counts(top)
         + pages.long_sentences(top)
         + pages.long_pages(top)
         + pages.machine_paths(top)
+        + files_page.differences(top)
     )
     return not wrong, "\n".join(wrong)
 
@@ -276,6 +281,65 @@ def the_manual_is_right(top):
         return False, str(error)
     wrong = site.broken(files) + site.unreached(files) + site.missing(files, manual.pages(), top)
     return not wrong, "\n".join(wrong)
+
+
+def examples_are_right(top):
+    """Whether each library has an example, whose block stands in a test or a case that it names."""
+    wrong = examples.wrong_examples(top)
+    return not wrong, "\n".join(wrong)
+
+
+SHOWN = """//! A library.
+//!
+//! An example: so. Tried by way of `next`, in `some_tests/src/a.rt`; and in `tests/cases/kind/first` and `second`.
+//!
+//! ```rust
+//! let n = next(1);
+//! assert!(rt; n == 2);
+//! ```
+//!
+//! ```text
+//! NEXT 2
+//!
+//! 0 1
+//! ```
+"""
+
+
+def wrong_examples_are_told(tree):
+    """Whether a library without an example is told, one with a line that is changed or out of order, and one whose file isn't there; and
+    none where lines are left out, or where a case has a file that lies elsewhere."""
+    room = tree / "shown"
+    files = {
+        "crates/some_tests/src/lib.rt": "//! Tests alone.\n",
+        "crates/some_tests/src/a.rt": "    let n = next(1);\n    n;\n    assert!(rt; n == 2);\n",
+        "tests/cases/kind/first/words": "next\n",
+        "tests/cases/kind/first/stdout": "NEXT 2\n",
+        "tests/cases/kind/second/words": "next\n",
+        "tests/cases/kind/second/same-as": "u ../../u\n",
+        "tests/cases/u": "0 1\n",
+        "crates/right/src/lib.rt": SHOWN,
+        "crates/changed/src/lib.rt": SHOWN.replace("n == 2", "n == 3").replace("NEXT 2", "NEXT 3"),
+        "crates/turned/src/lib.rt": SHOWN.replace("let n", "assert!(rt; n == 2);\n//! let n"),
+        "crates/gone/src/lib.rt": SHOWN.replace("a.rt", "b.rt").replace("second", "third"),
+        "crates/bare/src/lib.rt": "//! A library.\n",
+    }
+    for name, text in files.items():
+        (room / name).parent.mkdir(parents=True, exist_ok=True)
+        (room / name).write_text(text)
+    told = examples.wrong_examples(room)
+    shutil.rmtree(room)
+    wanted = [
+        "bare has no example that says where it is tried",
+        "changed: no file that it names has the lines of let n = next(1);",
+        "changed: no file that it names has the lines of NEXT 3",
+        "gone: there is no %s" % (room / "crates/some_tests/src/b.rt"),
+        "gone: there is no %s" % (room / "tests/cases/kind/third"),
+        "gone: no file that it names has the lines of let n = next(1);",
+        "gone: no file that it names has the lines of 0 1",
+        "turned: no file that it names has the lines of assert!(rt; n == 2);",
+    ]
+    return told == wanted, "\n".join(told)
 
 
 def wrong_manuals_are_told(tree):
@@ -319,13 +383,17 @@ def wrong_pages_are_told(tree):
     (tree / "docs" / "PROOFS.md").write_text(
         "# Right\n\n[a](#right) [b](../crates/README.md#1-low) [c](gone.md) [d](#left)\n\n"
         "`next`, `IsNext` in `Small.antt`; `nothing_so`, `some_number` in `Small.antt`, `Gone.antt`\n"
+        "`small::next`, `engines::next`\n"
     )
+    (tree / "CONTRIBUTING.md").write_text("`crates/small/src`, `crates/left`, `run-example`\n")
     told = pages.broken_links(tree) + pages.unknown_names(tree) + pages.misplaced_crates(tree)
     wanted = [
         "no file gone.md",
         "no heading #left",
         "there is no nothing_so",
         "there is no Gone.antt",
+        "there is no engines::next",
+        "there is no crates/left",
         "next isn't defined",
         "nothing_so isn't defined",
         "some_number isn't defined",
@@ -334,6 +402,75 @@ def wrong_pages_are_told(tree):
     return len(told) == len(wanted) and all(
         sum(one in said for said in told) == 1 for one in wanted
     ), "\n".join(told)
+
+
+def wrong_options_are_told(tree):
+    """Whether an option is told that the table lacks, one that there isn't, a file without what is in it, and what isn't in that file; and
+    a wrong number of edits."""
+    room = tree / "options"
+    row = "| `--%s` | `%s` in `a.rt` | off | %s | none |\n"
+    files = {
+        "crates.txt": "command_line:\n",
+        "crates/command_line/src/a.rt": 'pub(crate) const ONE_HELP: &str = "one";\nfn help() {\n'
+        '    named_option(\n        alloc,\n        "one", ONE_HELP);\n    arg.long("two-words");\n    number_option(alloc, "left");\n',
+        "crates/README.md": "### 8. High\n\n| `command_line` | a library |\n\n"
+        + row % ("one", "ONE_HELP", "`help` in `a.rt`")
+        + row % ("two-words", "TWO_HELP", "of `a.rt`")
+        + row % ("gone", "help", "no value"),
+        "crates/command_line/edits/a": "",
+        "crates/command_line/planted.edits": "edit: a\n\nedit: b\n",
+        "docs/ASSURANCE.md": "| `crates/NAME/edits/` | 1 edits | `crates/NAME/planted.edits` | 3 others |\n",
+    }
+    for name, text in files.items():
+        (room / name).parent.mkdir(parents=True, exist_ok=True)
+        (room / name).write_text(text)
+    told = pages.wrong_options(room) + pages.unknown_names(room) + pages.wrong_counts(room)
+    shutil.rmtree(room)
+    wanted = [
+        "crates/README.md lacks --left",
+        "crates/README.md has --gone, which is no option",
+        "crates/README.md names a file at --two-words and not what is in it",
+        "README.md: TWO_HELP isn't defined in a.rt",
+        "docs/ASSURANCE.md lacks: `crates/NAME/planted.edits` | 2 others",
+    ]
+    return sorted(told) == sorted(wanted), "\n".join(told)
+
+
+def a_wrong_page_of_files_is_told(tree):
+    """Whether the page of files has the first sentence of each head, also where a stop is within code, and says where it is of other
+    heads, has a file that is gone, lacks one, and which file has no sentence."""
+    room = tree / "files"
+    files = {
+        "crates/README.md": "### 1. Low\n\n| `low` | a library |\n\n### 2. High\n\n| `high` | a program |\n\n### None\n",
+        "crates/low/src/lib.rt": "//! Low, with\n//! more. Not told.\n\nmod one;\n",
+        "crates/low/src/one.rt": "//! Takes `a. b` | c.\n\nfn f() {}\n",
+        "crates/high/src/main.rt": "//! High.\n",
+        "crates/high/src/gone.rt": "//! Gone\n//! soon.\n",
+    }
+    for name, text in files.items():
+        (room / name).parent.mkdir(parents=True, exist_ok=True)
+        (room / name).write_text(text)
+    (room / files_page.PAGE).write_text(files_page.page(room))
+    rows = (room / files_page.PAGE).read_text().partition("## 1. Low")[2]
+    right = files_page.differences(room)
+    (room / "crates/low/src/one.rt").write_text("//! Takes `a. b` alone.\n")
+    (room / "crates/high/src/gone.rt").rename(room / "crates/high/src/come.rt")
+    (room / "crates/high/src/bare.rt").write_text("fn g() {}\n")
+    told = files_page.differences(room)
+    shutil.rmtree(room)
+    wanted_rows = (
+        "\n\n| [`low`](low/src/lib.rt) | Low, with more |\n|---|---|\n| [one.rt](low/src/one.rt) | Takes `a. b` \\| c |\n\n"
+        "## 2. High\n\n| [`high`](high/src/main.rt) | High |\n|---|---|\n| [gone.rt](high/src/gone.rt) | Gone soon |\n"
+    )
+    wanted = [
+        "crates/high/src/bare.rt has no sentence at its head",
+        "crates/FILES.md has: | [one.rt](low/src/one.rt) | Takes `a. b` \\| c |",
+        "crates/FILES.md lacks: | [one.rt](low/src/one.rt) | Takes `a. b` alone |",
+        "crates/FILES.md has: | [gone.rt](high/src/gone.rt) | Gone soon |",
+        "crates/FILES.md lacks: | [bare.rt](high/src/bare.rt) |  |",
+        "crates/FILES.md lacks: | [come.rt](high/src/come.rt) | Gone soon |",
+    ]
+    return (right, rows, told) == ([], wanted_rows, wanted), "\n".join([*right, rows, *told])
 
 
 def long_pages_are_told(tree):
@@ -452,7 +589,9 @@ def a_page_without_words_is_refused(top, tree):
     shutil.copy(top / "crates.txt", tree)
     file = tree / "crates/upit_file/specs/Body.antt"
     lines = file.read_text().split("\n")
-    place = next(at for at, line in enumerate(lines) if line.startswith("abbrev pub has_record :"))
+    place = next(
+        at for at, line in enumerate(lines) if line.startswith("abbrev pub has_value_record :")
+    )
     file.write_text("\n".join(lines[: place - 1] + lines[place:]))
     try:
         said = statement.page(statement.Sources(tree))[:1000]
@@ -460,15 +599,16 @@ def a_page_without_words_is_refused(top, tree):
         said = str(refusal)
     return (
         said
-        == "crates/upit_file/specs/Body.antt:%d: has_record has no words of its own above it"
+        == "crates/upit_file/specs/Body.antt:%d: has_value_record has no words of its own above it"
         % place,
         said,
     )
 
 
 def imports_are_right(top):
-    """Whether each file takes the names of a crate's specs from one file."""
-    wrong = imports.scattered(top)
+    """Whether each file takes the names of a crate's specs from one file, and uses them; and no clause is too wide."""
+    wrong = imports.scattered(top) + imports.unused(top) + imports.unused_code(top)
+    wrong += imports.wide_clauses(top)
     return not wrong, "\n".join(wrong)
 
 
@@ -526,6 +666,56 @@ REFUSALS = (
     (OTHER_TYPE + OPEN_GOAL, OPEN_GOAL[:-1]),
     (OPEN_GOAL + UNREAD, "the prover can't read the edited text"),
 )
+
+
+def unused_imports_are_told(tree):
+    """Whether a name is told that a source takes for its contracts and doesn't use, an operator too, though a comment has its sign; one
+    under another name isn't. A name within another is none."""
+    write(
+        tree,
+        "small/src/lib.rt",
+        "ghost use Rattle.std.specs.Prelude.{◌≡◌, ◌<◌, length, at as place};\n"
+        "ghost use Rattle.small.specs.Small.{IsNext};\n\n"
+        "// 1 < 2^27\nfn next() ensures { place ≡ length }\n",
+    )
+    write(
+        tree,
+        "small/proofs/Small.antt",
+        "use Rattle.std.specs.Prelude.{◌≡◌, All, nat_lt}\nuse Rattle.small.specs.Small as small\n\n-- All\n"
+        "lem : AllOf nat_lt' ≡ small.next\n",
+    )
+    own = ("crates/small/src/lib.rt", "crates/small/proofs/Small.antt")  # others left theirs
+    told = [one for one in imports.unused(tree) if one.startswith(own)]
+    wanted = ["nothing uses All", "nothing uses nat_lt", "nothing uses ◌<◌", "nothing uses IsNext"]
+    return [one.split(": ")[1] for one in told] == wanted, "\n".join(told)
+
+
+def imports_that_code_leaves_are_told(tree):
+    """Whether a name is told that a source takes for its code and doesn't use, though a comment or a contract's import has it; a trait
+    isn't, since its methods are called without its name."""
+    write(
+        tree,
+        "small/src/lib.rt",
+        "ghost use Rattle.small.specs.declared.size.Size.TheVariants as size;\n\n"
+        "use other::{Kept, Left as Gone, Counted};\nuse other::Size;\n\n"
+        "pub trait Counted {}\n// Size\nfn next(kept: Kept) {}\n",
+    )
+    told = [one for one in imports.unused_code(tree) if one.startswith("crates/small/src/lib.rt")]
+    wanted = ["nothing uses Gone", "nothing uses Size"]
+    return [one.split(": ")[1] for one in told] == wanted, "\n".join(told)
+
+
+def wide_clauses_are_told(tree):
+    """Whether a clause's line is told that is wider than 100 columns, one of its later lines too, and a line of a type's view or
+    invariant; and nothing else that is as wide."""
+    wide = "≡ " + "x" * 100
+    write(
+        tree,
+        "small/src/lib.rt",
+        f"// {wide}\nfn next()\n    requires few {{ a {wide} }}\n    ensures {{ a\n        {wide} }}\n{{\n    let a = {wide};\n}}\n    ghost view = {{ {wide} }};\n",
+    )
+    told = imports.wide_clauses(tree)
+    return [one.split(":")[1] for one in told] == ["3", "5", "9"], "\n".join(told)
 
 
 def refusals_are_read(top):
@@ -588,6 +778,7 @@ def goals_are_of_their_function(top):
 OF_THIS_TREE = [
     version_is_up_to_date,
     pages_are_right,
+    examples_are_right,
     the_manual_is_right,
     the_statement_is_of_the_sources,
     imports_are_right,
@@ -783,9 +974,15 @@ CASES = [
     named_edits_are_tried_alone,
     a_failed_proof_fails_the_example,
     wrong_pages_are_told,
+    wrong_examples_are_told,
+    wrong_options_are_told,
+    a_wrong_page_of_files_is_told,
     wrong_manuals_are_told,
     long_pages_are_told,
     scattered_imports_are_told,
+    unused_imports_are_told,
+    imports_that_code_leaves_are_told,
+    wide_clauses_are_told,
 ]
 
 
