@@ -16,7 +16,7 @@ from __future__ import annotations
 
 from typing import TYPE_CHECKING
 
-from .base.door import door
+from .base.public_names import door
 
 __version__ = "0.1.0"
 

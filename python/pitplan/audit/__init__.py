@@ -1,9 +1,10 @@
-"""What an auditor gets, and what `pitplan doctor` looks at."""
+"""What an auditor gets, the scripts that check it again without this package, and what
+`pitplan doctor` looks at."""
 from __future__ import annotations
 
 from typing import TYPE_CHECKING
 
-from ..base.door import door
+from ..base.public_names import door
 
 if TYPE_CHECKING:
     from . import bundle as bundle

@@ -31,34 +31,45 @@ _SCRIPTS = ("recheck.py", "plainly.py")
 _KEPT = ("factor", "count", "worth", "certificate", "pit", "seconds", "host")
 _README = """A bundle of pitplan %(version)s: the ultimate pits of %(table)s, and all that they rest on.
 
-    python3 recheck.py /path/to/pit              checks all of it again, by Python's standard library and a pit that you trust
-    python3 recheck.py --plainly /path/to/pit    and each certificate by plainly.py too, which shares nothing with pit: slow
+    python3 recheck.py /path/to/pit              checks all of it again, by Python's standard\
+ library and a pit that you trust
+    python3 recheck.py --plainly /path/to/pit    and each certificate by plainly.py too, which\
+ shares nothing with pit: slow
     sha256sum -c SHA256SUMS                      the digests alone
 
 study.toml           prices, recoveries, costs, slopes and factors, as the planner wrote them
 table/               the planner's table of blocks, byte for byte
-model/               what pit was given. A line of mine.blocks: a block's number, its place along x, y and z, what it brings, what
-                     treating and digging it cost, its tonnes, and its region where slopes differ. settings.toml: which column
-                     is which, and the slopes. A block rests on those at the offsets (x, y, z) that slopes lists for its region.
-                     Where settings.toml lists ways, a block brings and costs so much by each process of study.toml, in its order
+model/               what pit was given. A line of mine.blocks: a block's number, its place along\
+ x, y and z, what it brings, what
+                     treating and digging it cost, its tonnes, and its region where slopes differ.\
+ settings.toml: which column
+                     is which, and the slopes. A block rests on those at the offsets (x, y, z) that\
+ slopes lists for its region.
+                     Where settings.toml lists ways, a block brings and costs so much by each\
+ process of study.toml, in its order
 certificates/        for each factor the pit, and the flow that proves it
 verdicts.json        what pit check said of each, when and where
 tables/              pit by pit, bench by bench, and the row and the shell of each block
 facts.json           how the table was read, the grid, the versions of the programs
 
-Before you begin: compare the sha256 of SHA256SUMS with the one that the planner tells you by another way; recheck.py prints it
-last. Read the two scripts, or take them from a copy that you trust. The pit has to be yours: its repository builds and proves it.
+Before you begin: compare the sha256 of SHA256SUMS with the one that the planner tells you by\
+ another way; recheck.py prints it
+last. Read the two scripts, or take them from a copy that you trust. The pit has to be yours: its\
+ repository builds and proves it.
 
 One certificate by hand, in this folder:
 
     gzip -dc certificates/NAME.cert.gz | pit check --blocks model/mine.blocks --settings model/settings.toml /dev/stdin
 
-ACCEPTED, the number of blocks and the worth: the pit has all that its blocks rest on, and no such pit is worth more at its
+ACCEPTED, the number of blocks and the worth: the pit has all that its blocks rest on, and no such\
+ pit is worth more at its
 factor, over the files in model/. recheck.py compares these with the table, row by row.
 
-Nothing here shows that grades, densities, prices, costs and angles are true: read study.toml. Nor are these worked out again:
-discounted worths and years in tables/, and what digging added blocks costs.
-Walls are as steep as asked only as nearly as whole blocks can be: `pitplan slopes` prints by how much, for each bearing.
+Nothing here shows that grades, densities, prices, costs and angles are true: read study.toml. Nor\
+ are these worked out again:
+discounted worths and years in tables/, and, of sub-blocks, what digging added blocks costs.
+Walls are as steep as asked only as nearly as whole blocks can be: `pitplan slopes` prints by how\
+ much, for each bearing.
 docs/AUDIT.md of the repository of pit says what each check shows, line by line.
 """
 
@@ -120,8 +131,9 @@ def write_bundle(
         (work / "model" / "manifest.json").write_text(json.dumps(manifest, indent=1))
         _write_certificates(shells, work)
         write_tables(shells, work, rates or {})
-        (work / "facts.json").write_text(json.dumps(facts_of(study, name, dialect), indent=1))
         has_schedule = terms is not None and write_schedule(shells, work, terms, rates or {})
+        facts = facts_of(study, name, dialect) | {"has_schedule": has_schedule}
+        (work / "facts.json").write_text(json.dumps(facts, indent=1))
         (work / "README.txt").write_text(
             _README % {"version": __version__, "table": Path(name).name}
             + (OF_SCHEDULE if has_schedule else "")

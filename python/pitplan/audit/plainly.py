@@ -4,6 +4,7 @@ later).
 
     python3 plainly.py (--prec FILE --upit FILE | [--prec FILE] --blocks FILE --settings FILE) CERTIFICATE ..
     python3 plainly.py --upit FILE --blocks FILE --settings FILE CERTIFICATE ..
+    python3 plainly.py .. --uses FILE --periods FILE [--pit CERTIFICATE] CERTIFICATE ..
 
 The answer to each is a line as `pit check` prints it: ACCEPTED count worth (status 0), REFUSED why
 (1), or fault: certificate why (3); the status of several is the greatest. The model is read once. A
@@ -14,6 +15,11 @@ of its blocks, and no such set of blocks is worth more. The proof is the flow of
 Ore gives no more than it is worth, waste takes no more than it costs, and each block passes on what
 it gets. So the ore of any pit pays its own waste at least out of this flow, and no pit is worth
 more than all ore less the flow; this pit is worth that.
+
+With --periods a certificate is one of the mine of blocks and periods, and the answer is the line of
+`pit bound`: BOUND amount, and no feasible schedule is worth more. With --pit that mine has the blocks
+of a best pit alone, whose certificate is checked first. The text of periods has a key and its value in
+each line, as pitplan writes it.
 
 This file was written from docs/FORMATS.md of pit, and has no line in common with it.
 """
@@ -31,12 +37,12 @@ import re
 from array import array
 from collections.abc import Iterator, Sequence
 from fractions import Fraction
-from typing import IO, cast
+from typing import IO, Any, cast
 
 LINE, WHOLE_128 = 65536, 1 << 127
 MOST_BLOCKS, MOST_PAIRS, MOST_OFFSETS, MOST_REGIONS = 1 << 24, 1 << 27, 4096, 64
 MOST_WAYS = 8  # to treat a block
-MICRO, NANO = 10**6, 10**9
+MICRO, NANO, FEMTO = 10**6, 10**9, 10**15
 SPLIT = re.compile(rb"[ \t:\r]+")
 WHOLE = re.compile(rb"[0-9]{1,39}")
 SIGNED = re.compile(rb"[+-]?[0-9]{1,39}")
@@ -134,17 +140,17 @@ class Settings:
         self.region = found.get("region")
         self.columns = self.prices(found, WAYS.search(text)) if has_prices else []
 
-    def prices(self, found: dict[str, int], ways: re.Match[str] | None) -> list[int]:
-        """The columns of prices: revenue and processing of each way to treat a block, and behind
+    def prices(self, counts: dict[str, int], ways: re.Match[str] | None) -> list[int]:
+        """The columns of prices: revenue and processing of each way to treat a block, and after
         them mining; or revenue and cost."""
         if ways is not None:
-            if {"revenue", "processing", "cost"} & set(found) or "mining" not in found:
+            if {"revenue", "processing", "cost"} & set(counts) or "mining" not in counts:
                 raise Wrong("%s names ways beside other columns, or no mining" % self.name)
-            return [*self.listed_ways(ways[1]), found["mining"]]
-        if "revenue" in found and "cost" in found and not {"processing", "mining"} & set(found):
-            return [found["revenue"], found["cost"]]
-        if {"revenue", "processing", "mining"} <= set(found) and "cost" not in found:
-            return [found["revenue"], found["processing"], found["mining"]]
+            return [*self.listed_ways(ways[1]), counts["mining"]]
+        if "revenue" in counts and "cost" in counts and not {"processing", "mining"} & set(counts):
+            return [counts["revenue"], counts["cost"]]
+        if {"revenue", "processing", "mining"} <= set(counts) and "cost" not in counts:
+            return [counts["revenue"], counts["processing"], counts["mining"]]
         raise Wrong(
             "%s names neither revenue and cost nor revenue, processing and mining" % self.name
         )
@@ -171,7 +177,7 @@ class Settings:
             depth += (letter == "[") - (letter == "]")
             if letter == "]" and depth == 0:
                 break
-        try:  # JSON has no comma behind the last of a list, and no _ in a number
+        try:  # JSON has no comma after the last of a list, and no _ in a number
             found = json.loads(re.sub(r",(?=\s*\])", "", text[:end].replace("_", "")))
             lists = [[tuple(map(int, offset)) for offset in each] for each in found]
         except (ValueError, TypeError):
@@ -262,7 +268,18 @@ def read_values(name: str) -> list[int]:
     return values
 
 
-class Predecessors:
+class Rests:
+    """What rests on what."""
+
+    def of(self, block: int) -> Sequence[int]:
+        """The predecessors of the block."""
+        raise NotImplementedError
+
+    def has(self, block: int, other: int) -> bool:
+        raise NotImplementedError
+
+
+class Predecessors(Rests):
     """The predecessors of each block, in one array."""
 
     def __init__(self, name: str, count: int) -> None:
@@ -289,6 +306,7 @@ class Predecessors:
             self.after[block] = len(self.listed)
 
     def of(self, block: int) -> Sequence[int]:
+        """The predecessors of the block, by its row."""
         return self.listed[self.first[block] : self.after[block]]
 
     def has(self, block: int, other: int) -> bool:
@@ -296,7 +314,7 @@ class Predecessors:
         return other in self.of(block)
 
 
-class Above:
+class Above(Rests):
     """The predecessors of each block, where no file lists them: the blocks whose places less its
     own are offsets of its own region."""
 
@@ -313,6 +331,7 @@ class Above:
         self.offsets = [offsets[region // MICRO] for region in blocks.regions]
 
     def of(self, block: int) -> Sequence[int]:
+        """The blocks at the offsets of its region."""
         x, y, z = self.places[block]
         found = (self.at.get((x + i, y + j, z + k)) for i, j, k in self.offsets[block])
         return sorted(other for other in found if other is not None)
@@ -323,28 +342,36 @@ class Above:
         return way in self.offsets[block]
 
 
-def worths_of(price: list[bytes], table: list[list[int]], values: list[int] | None) -> list[int]:
-    """What each block is worth, in billionths, by the price line of a certificate: exact whole
-    numbers."""
+def ways_of(
+    price: list[bytes], table: list[list[int]], values: list[int] | None
+) -> list[list[int]]:
+    """What each block is worth by each way that it may go, in billionths, by the price line of a
+    certificate: exact whole numbers. Where there are several the last one is to waste."""
     if values is not None:
         if price != [b"OBJECTIVE"]:
             raise Fault("WrongPrice")
-        return [1000 * value for value in values]
+        return [[1000 * value for value in values]]
     if len(table) >= 3:
         if len(price) != 2:
             raise Fault("WrongPrice")
         k, (*ways, mining) = int(price[1]), table
-        best = [0] * len(mining)
-        for revenues, costs in zip(ways[::2], ways[1::2]):
-            best = [
-                max(most, k * revenue - 1000 * treating)
-                for most, revenue, treating in zip(best, revenues, costs)
+        treated = [
+            [
+                k * revenue - 1000 * (treating + digging)
+                for revenue, treating, digging in zip(revenues, costs, mining)
             ]
-        return [most - 1000 * digging for most, digging in zip(best, mining)]
+            for revenues, costs in zip(ways[::2], ways[1::2])
+        ]
+        return [*treated, [-1000 * digging for digging in mining]]
     if len(price) != 1 or price == [b"OBJECTIVE"]:
         raise Fault("WrongPrice")
     k = int(price[0])
-    return [k * revenue - 1000 * cost for revenue, cost in zip(*table)]
+    return [[k * revenue - 1000 * cost for revenue, cost in zip(*table)]]
+
+
+def worths_of(price: list[bytes], table: list[list[int]], values: list[int] | None) -> list[int]:
+    """What each block is worth by the best of them."""
+    return [max(each) for each in zip(*ways_of(price, table, values))]
 
 
 def fits(*numbers: int) -> bool:
@@ -413,9 +440,10 @@ class Check:
     """A check of one certificate over one model."""
 
     def __init__(
-        self, certificate: Certificate, rests: Predecessors | Above, worths: list[int], group: str
+        self, certificate: Certificate, rests: Rests, worths: list[int], group: str
     ) -> None:
         self.certificate, self.rests, self.group = certificate, rests, group
+        self.price: list[bytes] = []
         self.worths = worths
         n = len(worths)
         if group == "PAIR":
@@ -513,10 +541,11 @@ class Check:
             raise Refused("NotTight")
 
 
-def spelled(nanos: int) -> str:
-    """Billionths as a decimal without zeros at its end."""
-    text = "%d.%09d" % divmod(abs(nanos), NANO)
-    return ("-" if nanos < 0 else "") + text.rstrip("0").rstrip(".")
+def spelled(parts: int, whole: int = NANO) -> str:
+    """Billionths, or other parts of 1, as a decimal without zeros at its end."""
+    number, rest = divmod(abs(parts), whole)
+    text = "%d.%0*d" % (number, len(str(whole)) - 1, rest)
+    return ("-" if parts < 0 else "") + text.rstrip("0").rstrip(".")
 
 
 class Model:
@@ -528,7 +557,7 @@ class Model:
         self.table: list[list[int]] = []
         if not options.settings:
             self.values = read_values(options.upit)
-            self.rests: Predecessors | Above = Predecessors(options.prec, len(self.values))
+            self.rests: Rests = Predecessors(options.prec, len(self.values))
             self.count = len(self.values)
             return
         settings = Settings(options.settings, not options.upit)
@@ -549,15 +578,171 @@ class Model:
         )
 
 
+class Periods:
+    """What periods weigh and have, at which prices, what blocks use by each way, and for which others
+    each waits."""
+
+    def __init__(self, name: str, uses: str, count: int) -> None:
+        self.name, found = name, dict[str, str]()
+        with open(name, encoding="utf-8") as file:
+            for line in file:
+                key, _, value = line.split("#")[0].partition("=")
+                if key.strip():
+                    found[key.strip()] = value
+        self.weights = self.listed(found, "weights")
+        self.capacities = self.listed(found, "capacities")
+        self.prices = self.listed(found, "multipliers")
+        resources = self.listed(found, "resources")
+        waits, self.lag = self.listed(found, "waits", "[]"), int(found.get("lag", "1"))
+        columns = [each if isinstance(each, list) else [each] for each in resources]
+        blocks = Blocks(uses, [*sum(columns, []), *waits])
+        if len(blocks.places) != count:
+            raise Wrong("%s has another number of blocks" % uses)
+        if min((min(row) for row in blocks.table), default=0) < 0:
+            raise Wrong("%s: a use is below 0" % uses)
+        rows = iter(blocks.table)
+        amounts = [[next(rows) for _ in each] for each in columns]
+        self.uses = [
+            (own, isinstance(each, list)) for own, each in zip(amounts, resources)
+        ]  # of each resource a row, or one for each way
+        self.waits: list[set[int]] = [set() for _ in range(count)]
+        for row in rows:
+            for block, other in enumerate(row):
+                if other // MICRO >= count:
+                    raise Wrong("%s: a block waits for one that isn't there" % uses)
+                self.waits[block] |= {other // MICRO} - {block}
+        shape = [len(self.weights)] * len(resources)
+        if any([len(row) for row in each] != shape for each in (self.capacities, self.prices)):
+            raise Wrong("%s: a row isn't of as many periods as weights" % name)
+        falls = [b - a for a, b in zip([MICRO, *self.weights], [*self.weights, 0])]
+        if max(falls) > 0 or min(sum(self.capacities + self.prices, [0])) < 0:
+            raise Wrong("%s: weights rise, or a number is below 0" % name)
+
+    def listed(self, found: dict[str, str], key: str, default: str | None = None) -> list[Any]:
+        """The list of a key."""
+        text = found.get(key, default)
+        if text is None:
+            raise Wrong("%s has no %s" % (self.name, key))
+        try:
+            return list(json.loads(text.replace("_", "")))
+        except (ValueError, TypeError):
+            raise Wrong("%s: %s is no list" % (self.name, key)) from None
+
+    def left(self, block: int, ways: list[list[int]]) -> list[int]:
+        """What a block leaves in each period, by the way that leaves most then, in 10^-15; and
+        nothing after the last."""
+        found = []
+        for t, weight in enumerate(self.weights):
+            each = [weight * row[block] for row in ways]
+            for (rows, by_way), prices in zip(self.uses, self.prices):
+                for d in range(len(ways)):
+                    if not by_way:
+                        each[d] -= rows[0][block] * prices[t]
+                    elif d < len(rows):  # the last way is to waste
+                        each[d] -= rows[d][block] * prices[t]
+            found.append(max(each))
+        return [*found, 0]
+
+    def paid(self) -> int:
+        """All capacities at their prices, in 10^-15."""
+        both = zip(sum(self.capacities, []), sum(self.prices, []))
+        total: int = sum(room * price for room, price in both)
+        return total * MICRO
+
+
+class Nodes(Rests):
+    """The mine of blocks and periods, node t * n + b for block b of n by the end of period t; of the
+    blocks of a pit where one is given."""
+
+    def __init__(self, model: Model, periods: Periods, pit: list[int] | None) -> None:
+        self.rests, self.periods = model.rests, periods
+        self.blocks = list(range(model.count)) if pit is None else pit
+        self.number = {block: at for at, block in enumerate(self.blocks)}
+        self.n, self.count = len(self.blocks), len(self.blocks) * len(periods.weights)
+
+    def worths(self, ways: list[list[int]]) -> list[int]:
+        """What each node is worth."""
+        found = [0] * self.count
+        for at, block in enumerate(self.blocks):
+            left = self.periods.left(block, ways)
+            waits = any(other in self.number for other in self.periods.waits[block])
+            for t in range(len(left) - 1):
+                held = FEMTO * FEMTO if waits and t < self.periods.lag else 0
+                found[t * self.n + at] = left[t] - left[t + 1] - held
+        return found
+
+    def of(self, node: int) -> Sequence[int]:
+        """The predecessors of the node."""
+        t, at = divmod(node, self.n)
+        found, block, before = [], self.blocks[at], (t - self.periods.lag) * self.n
+        there = (self.number.get(other) for other in self.rests.of(block))
+        found += [t * self.n + other for other in there if other is not None]
+        if before >= 0:
+            late = (self.number.get(other) for other in self.periods.waits[block])
+            found += [before + other for other in late if other is not None]
+        return found + ([node + self.n] if node + self.n < self.count else [])
+
+    def has(self, node: int, other: int) -> bool:
+        """Whether the other one is a predecessor of the node."""
+        (t, a), (s, b) = divmod(node, self.n), divmod(other, self.n)
+        low, high = self.blocks[a], self.blocks[b]
+        return (
+            a == b
+            and s == t + 1
+            or s == t
+            and a != b
+            and self.rests.has(low, high)
+            or s == t - self.periods.lag
+            and high in self.periods.waits[low]
+        )
+
+
+def bound_of(model: Model, options: argparse.Namespace, name: str) -> tuple[str, int]:
+    """The line that `pit bound` would print of a certificate, and its exit status."""
+    certificate, pit = Certificate(name), None
+    try:
+        if options.pit:
+            best = checked(model, Certificate(options.pit))
+            pit = best.pit
+        periods = Periods(options.periods, options.uses, model.count)
+        nodes = Nodes(model, periods, pit)
+        found, price, group = certificate.header()
+        if found != nodes.count:
+            raise Fault("Number(2)")
+        if options.pit and price != best.price:
+            raise Fault("WrongPrice")
+        if group != "WORTH":
+            raise Fault("Text(4)")
+        check = Check(
+            certificate, nodes, nodes.worths(ways_of(price, model.table, model.values)), group
+        )
+        check.run()
+    except Fault as fault:
+        return "fault: certificate %s" % fault, 3
+    except Refused as why:
+        return "REFUSED %s" % why, 1
+    finally:
+        certificate.file.close()
+    worth = sum(check.worths[node] for node in check.pit)
+    return "BOUND %s" % spelled(worth + periods.paid(), FEMTO), 0
+
+
+def checked(model: Model, certificate: Certificate) -> Check:
+    """A certificate of a pit once it holds; raises Fault or Refused where it doesn't."""
+    found, price, group = certificate.header()
+    if found != model.count:
+        raise Fault("Number(2)")
+    check = Check(certificate, model.rests, worths_of(price, model.table, model.values), group)
+    check.price = price
+    check.run()
+    return check
+
+
 def answer(model: Model, name: str) -> tuple[str, int]:
     """The line that `pit check` would print of a certificate, and its exit status."""
     certificate = Certificate(name)
     try:
-        found, price, group = certificate.header()
-        if found != model.count:
-            raise Fault("Number(2)")
-        check = Check(certificate, model.rests, worths_of(price, model.table, model.values), group)
-        check.run()
+        check = checked(model, certificate)
     except Fault as fault:
         return "fault: certificate %s" % fault, 3
     except Refused as why:
@@ -567,15 +752,16 @@ def answer(model: Model, name: str) -> tuple[str, int]:
     worth = sum(check.worths[block] for block in check.pit)
     return (
         "ACCEPTED %d %s%s"
-        % (len(check.pit), spelled(worth), " GROUP WORTH" if group == "WORTH" else ""),
+        % (len(check.pit), spelled(worth), " GROUP WORTH" if check.group == "WORTH" else ""),
         0,
     )
 
 
-def attempted(model: Model, name: str) -> tuple[str, int]:
-    """The same, or a line that says why the certificate can't be read."""
+def attempted(model: Model, options: argparse.Namespace, name: str) -> tuple[str, int]:
+    """The same, or that of `pit bound` where periods are given; or a line that says why it can't be
+    read."""
     try:
-        return answer(model, name)
+        return bound_of(model, options, name) if options.periods else answer(model, name)
     except UNREADABLE as error:
         return "plainly: %s" % error, 3
 
@@ -583,7 +769,7 @@ def attempted(model: Model, name: str) -> tuple[str, int]:
 def main() -> int:
     """Judges the certificates that the words name, and gives the exit status."""
     reading = argparse.ArgumentParser(description=__doc__.split("\n\n")[0])
-    for name in ("prec", "upit", "blocks", "settings"):
+    for name in ("prec", "upit", "blocks", "settings", "uses", "periods", "pit"):
         reading.add_argument("--" + name)
     reading.add_argument("certificates", nargs="+", metavar="certificate")
     options = reading.parse_args()
@@ -591,11 +777,13 @@ def main() -> int:
         reading.error("either --upit, or --blocks and --settings, or all three")
     if options.upit and bool(options.prec) == bool(options.settings):
         reading.error("beside --upit, either --prec or settings say what rests on what")
+    if bool(options.uses) != bool(options.periods) or options.pit and not options.periods:
+        reading.error("--uses and --periods together, and --pit beside them")
     worst = 0
     try:
         model = Model(options)
         for name in options.certificates:
-            line, status = attempted(model, name)
+            line, status = attempted(model, options, name)
             print(line, flush=True)
             worst = max(worst, status)
     except UNREADABLE as error:

@@ -25,23 +25,43 @@ import json
 import math
 import re
 import subprocess
+import tempfile
 import tomllib
 import unicodedata
 import zlib
 from bisect import bisect_right
 from collections import Counter, defaultdict
-from collections.abc import Callable, Collection, Iterator, Mapping
+from collections.abc import Callable, Collection, Iterator, Mapping, Sequence
 from decimal import Decimal
 from functools import cache, cached_property
 from itertools import zip_longest
 from pathlib import Path
 from typing import Any, BinaryIO, NamedTuple
 
+# --- Files of a bundle; units, limits and tolerances ---
 HERE = Path(__file__).resolve().parent
-SUMS, PIECE, THOUSAND, MICRO, NANO = "SHA256SUMS", 1 << 20, 1000, 10**6, 10**9
+SUMS, CHUNK_SIZE, THOUSAND, MICRO, NANO = "SHA256SUMS", 1 << 20, 1000, 10**6, 10**9
+# What each bundle has beside its table and certificates.
+KNOWN = (
+    *("study.toml", "verdicts.json", "facts.json", "recheck.py", "plainly.py", "README.txt"),
+    *("model/mine.blocks", "model/settings.toml", "model/manifest.json"),
+    *("tables/pit_by_pit.csv", "tables/benches.csv", "tables/blocks.csv"),
+)
+# What it has of a plan by years.
+OF_SCHEDULE = (
+    *("recheck_schedule.py", "schedule/bound.cert.gz", "schedule/periods.toml"),
+    *("schedule/schedule.txt", "schedule/terms.json", "schedule/units.txt"),
+    *("schedule/uses.blocks", "tables/schedule.csv", "tables/schedule_benches.csv"),
+)
 HELD = 10  # bytes of memory that a byte of a table takes, its cells as words
+PLANNED = re.compile(
+    r"SCHEDULE (\d+) (-?[\d.]+)\nBROKEN 0\n(?:BOUND (-?[\d.]+)\nGAP [\d.]+\n)?"
+)  # of pit schedule, of a schedule that is feasible
+MOST_UNPACKED = 1 << 34  # bytes of a certificate of the plan by years
 LINE = 120  # bytes that a line of a certificate has at most
 NUMBER = re.compile(r"[+-]?(\d+\.?\d*|\.\d+)([eE][+-]?\d+)?")
+# a block's number and its place in mine.blocks, and each of its columns, as pitplan writes them
+PLACED, COLUMN = r"[0-9]{1,10}(?: -?[0-9]{1,10}){3}", r" [+-]?[0-9]+(?:\.[0-9]+)?(?:e[+-]?[0-9]+)?"
 COMMA = re.compile(r"([+-]?\d*),(\d+(?:[eE][+-]?\d+)?)")
 # bytes that any table may unpack to, and how many times its size a larger one may
 SMALL, MOST_TIMES = (
@@ -82,14 +102,15 @@ FAR, LONGEST = (
     2000,
 )
 ROUNDED = 1e-6  # degrees: so little is what arithmetic leaves
-MOST = 10**18  # millionths that `pit` reads for a block
+MOST_BLOCKS = 1 << 24  # that `pit` reads
+MOST_WORTH = 10**18  # millionths that `pit` reads for a block
 TOLD = 12  # offsets that a line names
 # degrees that a wall may err by: on average, at the worst bearing, on average with its sign; of the
 # worst errors to both sides the lesser is at least this share of the greater
 MEAN, WORST, SIGNED, SIDE = 0.5, 1.0, 0.25, 0.25
-NEAR = 1e-6  # relative: numbers so near to each other are one
+TOLERANCE = 1e-6  # relative: numbers so near to each other are one
 # what a wall that is too steep weighs where none may be, and degrees that are none
-TOO_STEEP, EVEN = 1000, math.degrees(NEAR) / 2
+TOO_STEEP, EVEN = 1000, math.degrees(TOLERANCE) / 2
 OFFSETS_AT_MOST, MOST_LEVELS = 4096, 200
 # the blocks that a wall comes out, and at how many stretches of its cone it is looked for
 TRIES = (10, 400), (24, 300)
@@ -104,6 +125,9 @@ UNWORKABLE = (
     TypeError,
     ValueError,
 )
+
+
+# --- Schemas: the values that each key of study.toml and of the JSON and TOML files may have ---
 
 
 class Bad(Exception):
@@ -152,7 +176,13 @@ def is_angles(value: Any) -> bool:
 
 def is_rounding(value: Any) -> bool:
     """Whether this is a whole number of millionths, and not none."""
-    return is_number(value, 1 / MICRO, MOST / MICRO) and Decimal(str(value)) * MICRO % 1 == 0
+    return is_number(value, 1 / MICRO, MOST_WORTH / MICRO) and Decimal(str(value)) * MICRO % 1 == 0
+
+
+def is_rate(value: Any) -> bool:
+    """Whether this is a number above 0, or a list of such numbers."""
+    each = value if isinstance(value, list) else [value]
+    return all(is_number(one, 1e-12) for one in each)
 
 
 def has_ramp(value: Any) -> bool:
@@ -214,6 +244,8 @@ SLOPES = Kind(
 )
 
 KEPT = Kind("a number above 0 and at most 1", lambda value: is_number(value, 0, 1) and value > 0)
+RATE = Kind("a number above 0, or a list of such numbers", is_rate)
+COUNT = Kind("a whole number from 1 on", lambda value: is_whole(value, 1))
 MOST_WAYS = 8  # to treat a block
 
 # The keys of each section of study.toml that are looked at, and what each may be; likewise of the other files.
@@ -225,6 +257,10 @@ STUDY: dict[str, dict[str, Kind]] = {
         "z": one_of("elevation", "depth"),
         "absent": WORDS,
         "missing": one_of("refuse", "air", "rock"),
+        "fill": Kind(
+            "a table of numbers and words in quotes",
+            lambda value: is_table(value, lambda each: is_number(each) or is_word(each)),
+        ),
         "widen": WHOLE,
         "regularise": IS_SO,
         "units": Kind(
@@ -279,7 +315,31 @@ STUDY: dict[str, dict[str, Kind]] = {
             lambda value: is_list(value, lambda share: is_number(share, 0, 10), 1)
             or is_table(value, is_number)
             and set(value) == set(SERIES),
-        )
+        ),
+        "mining_rate": RATE,
+        "mill_rate": RATE,
+        "discount": SHARE,
+    },
+    "schedule": {
+        "years": COUNT,
+        "per_year": COUNT,
+        "when": one_of("start", "mid", "end"),
+        "mining_rate": RATE,
+        "mill_rate": RATE,
+        "process_rates": Kind(
+            "a table of such rates",
+            lambda value: isinstance(value, dict) and all(map(is_rate, value.values())),
+        ),
+        "discount": SHARE,
+        "sink": COUNT,
+        "panel": COUNT,
+        "cutoff": one_of("fixed", "by year"),
+        "pushbacks": Kind(
+            "a list of numbers above 0",
+            lambda value: is_list(value, lambda each: is_number(each, 1e-12)),
+        ),
+        "lead": WHOLE,
+        "fixed_cost": COST,
     },
 }
 METAL = {
@@ -293,6 +353,8 @@ METAL = {
     "selling": COST,
     "currency": WORD,
 }
+# Keys that pitplan reads to build the model, and whose values show in the model alone.
+TO_BUILD = {"model": {"table", "decimal", "encoding", "skip"}}
 PROCESS = {
     "name": WORD,
     "rocks": WORDS,
@@ -302,6 +364,11 @@ PROCESS = {
     "dilution": SHARE,
     "mining_recovery": KEPT,
     "rate": COST,
+}
+# What columns of [model] names.
+ROLES = {
+    *("id", "x", "y", "z", "dx", "dy", "dz", "tonnes", "density", "rock", "class"),
+    *("topography", "ore"),
 }
 NEEDED = ("metals", "mining", "name", "grade", "price", "cost")
 GRID = {
@@ -329,6 +396,8 @@ FACTS = {
     "blocks": WHOLE,
     "currency": WORD,
     "has_sub_blocks": IS_SO,
+    "has_schedule": IS_SO,
+    "settings": WORDS,
     "columns": Kind(
         "the names of the columns x, y and z, and of others",
         lambda value: is_table(value, is_word) and {"x", "y", "z"} <= set(value),
@@ -371,6 +440,8 @@ WAYS = Kind(
     ),
 )
 SETTINGS = {**WAY, **COLUMNS, "ways": WAYS, "slopes": SLOPES, "region": AT, "up": one_of("plus")}
+AIR: dict[str, Any] = {"tonnes": 0.0, "rock": "air"}  # what is said of a block of air
+PLACES = 3  # fields of a line of mine.blocks after its number, before its columns
 
 
 def is_encoding(name: str) -> bool:
@@ -409,6 +480,9 @@ def looked_at(
         if key not in table and key in needed:
             raise Bad(f"{where} {key} isn't there, and has to be {kind.must}")
     return table
+
+
+# --- The report: lines of ok, WRONG and look ---
 
 
 class Report:
@@ -461,11 +535,14 @@ def free_memory() -> int:
         return 1 << 30
 
 
+# --- Integrity: each file is listed in SHA256SUMS, with its digest ---
+
+
 def digest_of(path: Path) -> str:
     """The sha256 of a file."""
     digest = hashlib.sha256()
     with open(path, "rb") as file:
-        while data := file.read(PIECE):
+        while data := file.read(CHUNK_SIZE):
             digest.update(data)
     return digest.hexdigest()
 
@@ -504,13 +581,34 @@ def check_digests(report: Report) -> None:
             f"sha256 of {name}",
             lambda: report.check(digest_of(within(name)) == digest, f"sha256 of {name}"),
         )
-    there = {
+    for name in sorted(names_there() - set(listed) - {SUMS}):
+        report.check(False, f"{name} isn't listed in {SUMS}")
+
+
+def names_there() -> set[str]:
+    """The files of the bundle; links too, whatever they lead to."""
+    return {
         path.relative_to(HERE).as_posix()
         for path in HERE.rglob("*")
         if not path.is_dir() or path.is_symlink()
     }
-    for name in sorted(there - set(listed) - {SUMS}):
-        report.check(False, f"{name} isn't listed in {SUMS}")
+
+
+def check_names(report: Report, blocks: Blocks, facts: dict[str, Any]) -> None:
+    """Each file is one that a check reads, by its whole name, each key of study.toml one that pitplan
+    reads, and the columns of mine.blocks are those that facts.json names."""
+    certificates = [verdict["file"] for verdict in verdicts_of()]
+    known = {SUMS, *KNOWN, *OF_SCHEDULE, facts["table"], *certificates}
+    for name in sorted(names_there() - known):
+        report.check(False, f"{name}: nothing of a bundle has that name, and no check reads it")
+    report.check(
+        facts["settings"] == blocks.columns,
+        f"the columns of model/mine.blocks are {', '.join(blocks.columns)}, as facts.json says",
+    )
+    check_keys(report)
+
+
+# --- Reading JSON and TOML by these schemas ---
 
 
 def text_of(name: str, kind: str) -> str:
@@ -521,22 +619,54 @@ def text_of(name: str, kind: str) -> str:
         raise Bad(f"{name} isn't {kind} in UTF-8: {error}") from None
 
 
+def once(pairs: list[tuple[str, Any]]) -> dict[str, Any]:
+    """A table of JSON. A key that comes twice has two values, of which a reader takes one."""
+    found = dict(pairs)
+    if len(found) < len(pairs):
+        key = next(key for key, count in Counter(key for key, _ in pairs).items() if count > 1)
+        raise Bad(f"the key {shown(key)} comes twice in a table")
+    return found
+
+
 def load(name: str) -> Any:
     """What a JSON file has."""
+    return of_json(text_of(name, "JSON"), name)
+
+
+def of_json(text: str, name: str) -> Any:
+    """What the text of a JSON file has."""
     try:
-        return json.loads(text_of(name, "JSON"))
+        return json.loads(text, object_pairs_hook=once)
+    except Bad as error:
+        raise Bad(f"{name}: {error}") from None
     except (ValueError, RecursionError) as error:
         raise Bad(f"{name} isn't JSON: {error}") from None
 
 
 def toml_of(name: str) -> dict[str, Any]:
-    """What a TOML file has."""
+    """What the planner's TOML file has, whose lines may end as any editor ends them."""
+    text = text_of(name, "TOML").removeprefix("\ufeff")
+    return of_toml(text.replace("\r\n", "\n").replace("\r", "\n"), name)
+
+
+def of_toml(text: str, name: str) -> dict[str, Any]:
+    """What the text of a TOML file has."""
     try:
-        return tomllib.loads(
-            text_of(name, "TOML").removeprefix("\ufeff").replace("\r\n", "\n").replace("\r", "\n")
-        )
+        return tomllib.loads(text)
     except (ValueError, RecursionError) as error:
         raise Bad(f"{name} isn't TOML: {error}") from None
+
+
+def toml_as_written(name: str) -> dict[str, Any]:
+    """What a TOML file of pitplan's own has, which `pit` reads too. Its lines end at a line feed
+    alone: at any other control character two programs may end a line or not."""
+    text = text_of(name, "TOML")
+    strange = next((c for c in text if c != "\n" and not c.isprintable()), None)
+    if strange is not None:
+        raise Bad(
+            f"{name} has the character {shown(strange)}, which pitplan writes into no such file"
+        )
+    return of_toml(text, name)
 
 
 def facts_of() -> dict[str, Any]:
@@ -565,10 +695,13 @@ def verdicts_of() -> list[dict[str, Any]]:
     ]
 
 
+# --- The model that pit was given: places, revenues, costs and slopes of the blocks ---
+
+
 def millionths(text: str) -> int:
     """An amount of .blocks in millionths, exactly."""
     found = Decimal(text) * MICRO
-    if not abs(found) <= MOST:
+    if not abs(found) <= MOST_WORTH:
         raise Bad(f"{text} is more than pit reads for a block")
     if found != int(found):
         raise Bad(f"{text} has more than six decimals")
@@ -601,55 +734,66 @@ class Blocks:
     """
 
     def __init__(self) -> None:
+        name = "model/settings.toml"
         settings = looked_at(
-            "model/settings.toml:",
-            toml_of("model/settings.toml"),
-            SETTINGS,
-            [*COLUMNS, "slopes", "up"],
+            f"{name}:", toml_as_written(name), SETTINGS, [*COLUMNS, "slopes", "up"]
         )
         self.slopes: list[list[list[int]]] = settings["slopes"]
         self.column: int | None = settings.get("region")
-        listed = ways_in(settings)
-        mining, tonnes = (3 + settings[name] for name in COLUMNS)
-        rows: dict[int, list[str]] = {}
-        with open(within("model/mine.blocks"), encoding="ascii", errors="replace") as file:
-            for n, line in enumerate(file, 1):
-                fields = line.split()
-                if not fields or not fields[0].isdecimal() or len(fields[0]) > 10:
-                    raise Bad(f"line {n} begins with no number of a block: {shown(line[:80])}")
-                rows[int(fields[0])] = fields[1:]
-        if sorted(rows) != list(range(len(rows))):
-            raise Bad("the blocks aren't numbered from 0 on")
-        self.rows = rows
+        self.listed = ways_in(settings)
+        count = 2 * len(self.listed) + len(COLUMNS)
+        wanted = {key: count - len(COLUMNS) + i for i, key in enumerate(COLUMNS)}
+        if (
+            set(settings) - set(SETTINGS)
+            or self.listed != [(2 * i, 2 * i + 1) for i in range(len(self.listed))]
+            or {key: settings[key] for key in wanted} != wanted
+            or self.column not in (None, count)
+        ):
+            raise Bad(
+                f"{name} names other columns of mine.blocks than pitplan writes, or other keys"
+            )
+        self.count = count  # of columns without that of regions
+        self.rows = block_rows(count + (self.column is not None))
         self.places, self.amounts, self.tonnes = (
             list[tuple[int, ...]](),
             list[Amounts](),
             list[float](),
         )
-        for b in range(len(rows)):
-            row = rows[b]
-            try:
-                x, y, z = map(int, row[:3])
-                self.places.append((x, y, z))
-                each = ((millionths(row[a]), millionths(row[b])) for a, b in listed)
-                self.amounts.append(Amounts(tuple(each), millionths(row[mining])))
-                self.tonnes.append(float(row[tonnes]))
-            except (ArithmeticError, IndexError, ValueError):
-                raise Bad(
-                    f"block {b} is {shown(' '.join(row))}, and has to be a place of three whole numbers, and numbers in the columns that model/settings.toml names"
-                ) from None
-            except Bad as error:
-                raise Bad(f"block {b}: {error}") from None
+        for b in range(len(self.rows)):
+            self.take(b)
+
+    def take(self, b: int) -> None:
+        """Takes in what the line of a block says."""
+        x, y, z, *columns = self.rows[b]
+        self.places.append((int(x), int(y), int(z)))
+        try:
+            each = ((millionths(columns[i]), millionths(columns[j])) for i, j in self.listed)
+            mining, tonnes = columns[self.count - len(COLUMNS) : self.count]
+            self.amounts.append(Amounts(tuple(each), millionths(mining)))
+            self.tonnes.append(float(tonnes))
+        except Bad as error:
+            raise Bad(f"block {b}: {error}") from None
+
+    @property
+    def columns(self) -> list[str]:
+        """What the columns are, without that of regions, as facts.json has to say it."""
+        ways = len(self.listed)
+        numbers = [""] if ways == 1 else [f" {number}" for number in range(1, ways + 1)]
+        return [*(f"{name}{number}" for number in numbers for name in WAY), *COLUMNS]
 
     def region(self, block: int) -> int:
         """The region of slopes of a block."""
         if self.column is None:
             return 0
         row = self.rows[block]
-        found = row[3 + self.column] if 3 + self.column < len(row) else ""
+        found = row[PLACES + self.column]
         if not re.fullmatch("[0-9]{1,5}", found) or int(found) >= len(self.slopes):
             raise Bad(
-                f"model/mine.blocks: the region of block {block} is {shown(found)}, and has to be a number of the {len(self.slopes)} slopes of model/settings.toml, counted from 0"
+                (
+                    f"model/mine.blocks: the region of block {block} is {shown(found)}, and has"
+                    f" to be a number of the {len(self.slopes)} slopes of model/settings.toml,"
+                    " counted from 0"
+                )
             )
         return int(found)
 
@@ -687,14 +831,49 @@ class Blocks:
         return worths.index(best) + 1 if best > 0 else 0
 
 
+def block_rows(width: int) -> dict[int, list[str]]:
+    """The lines of model/mine.blocks by the number of the block, each without it: its place and so
+    many columns. It is read as `pit` reads it, whose lines end at a line feed alone; no line may
+    have a byte that pitplan writes into none, as one that parts fields for one program alone."""
+    form = re.compile((PLACED + f"(?:{COLUMN}){{{width}}}").encode())
+    rows: dict[int, list[str]] = {}
+    with open(within("model/mine.blocks"), "rb") as file:
+        for n, line in enumerate(file, 1):
+            text = line.removesuffix(b"\n")
+            first, _, rest = text.partition(b" ")
+            if not first.isdigit() or len(first) > 10:
+                raise Bad(
+                    f"line {n} begins with no number of a block:"
+                    f" {shown(line[:80].decode(errors='replace'))}"
+                )
+            block = int(first)
+            if block in rows:
+                raise Bad(f"line {n} is a second one of block {block}")
+            if text == line or not form.fullmatch(text):
+                is_whole = text != line
+                raise Bad(
+                    f"block {block} is {shown(rest.decode(errors='replace'))}, and has to be a place"
+                    " of three whole numbers, and numbers in the columns that model/settings.toml"
+                    f" names: {PLACES + width} fields, a space between two, and a line feed"
+                    + ("" if is_whole else ", which isn't there")
+                )
+            rows[block] = rest.decode().split(" ")
+    if sorted(rows) != list(range(len(rows))):
+        raise Bad("the blocks aren't numbered from 0 on")
+    return rows
+
+
 def ways_in(settings: dict[str, Any]) -> list[tuple[int, int]]:
-    """Where a row of mine.blocks, without its number, has revenue and processing of each way."""
+    """Which columns of mine.blocks have revenue and processing of each way."""
     ways = settings.get("ways")
     if ways is None:
         ways = [looked_at("model/settings.toml:", settings, WAY, list(WAY))]
     elif set(WAY) & set(settings):
         raise Bad("model/settings.toml has ways, and revenue or processing beside them")
-    return [(3 + way["revenue"], 3 + way["processing"]) for way in ways]
+    return [(way["revenue"], way["processing"]) for way in ways]
+
+
+# --- Certificates: each pit is accepted, adds up to its worth, and lies within the next ---
 
 
 def spelled(nanos: int) -> str:
@@ -704,14 +883,31 @@ def spelled(nanos: int) -> str:
 
 
 def pieces(file: BinaryIO, most: int, what: str) -> Iterator[bytes]:
-    """What a packed file has, in pieces; one that unpacks to more than `most` bytes, which is more
-    than it can have, isn't read on."""
-    with gzip.open(file, "rb") as unpacked:
-        while data := unpacked.read(PIECE):
-            most -= len(data)
+    """What a packed file of pitplan's own has, in pieces; one that unpacks to more than `most`
+    bytes, which is more than it can have, isn't read on. It is one member of gzip: where another one
+    follows, one program reads on and another doesn't."""
+    packed = zlib.decompressobj(31)
+    while data := file.read(CHUNK_SIZE):
+        while data and not packed.eof:
+            text = packed.decompress(data, CHUNK_SIZE)
+            data = packed.unconsumed_tail
+            most -= len(text)
             if most < 0:
                 raise Bad(f"it unpacks to more than {what} can have")
-            yield data
+            yield text
+        if data or packed.unused_data:
+            raise Bad("bytes follow the end of what is packed, as of a second member of gzip")
+    if not packed.eof:
+        raise EOFError("it was cut off")
+
+
+def refuse_endless(file: BinaryIO, most: int) -> None:
+    """Raises Bad where a packed table, of one member of gzip or several, unpacks to more bytes."""
+    with gzip.open(file, "rb") as unpacked:
+        while data := unpacked.read(CHUNK_SIZE):
+            most -= len(data)
+            if most < 0:
+                raise Bad("it unpacks to more than a table can have")
 
 
 class Judged(NamedTuple):
@@ -763,13 +959,40 @@ def judged(pit: str, path: Path, most: int, what: str) -> Judged:
     of, factor = (
         (int(number) if number else None for number in head.groups()) if head else (None, None)
     )
-    held = [line[4:] for line in bytes(text).splitlines() if line.startswith(b"PIT ")]
+    held = [line[4:] for line in bytes(text).split(b"\n") if line.startswith(b"PIT ")]
     strange = next((block for block in held if not block.isdigit() or len(block) > 10), None)
     if strange is not None:
         raise Bad(
             f"a PIT line has {shown(strange.decode(errors='replace'))}, and has to have the number of a block"
         )
     return Judged(said, digest.hexdigest(), list(map(int, held)), of, factor)
+
+
+def other_mine(of: int | None, here: int) -> str:
+    """What to add where a certificate's header tells that it is of another mine."""
+    return (
+        ""
+        if of is None or of == here
+        else f": the certificate is of another mine, of {of:,} blocks, and the model has {here:,}"
+    )
+
+
+def plainly(paths: list[Path], more: Sequence[str] = ()) -> list[str]:
+    """What plainly.py says of these certificates, for each a line, by more words."""
+    words = ["--blocks", "model/mine.blocks", "--settings", "model/settings.toml", *more]
+    run = subprocess.run(
+        [sys.executable, "-I", str(within("plainly.py")), *words, *map(str, paths)],
+        cwd=HERE,
+        stdout=subprocess.PIPE,
+        text=True,
+    )
+    lines = run.stdout.splitlines()
+    # where the model can't be read, that is the one line
+    return (
+        (lines + lines[-1:] * (len(paths) - len(lines)))[: len(paths)]
+        if lines
+        else ["no answer"] * len(paths)
+    )
 
 
 def check_pits(report: Report, pit: str, blocks: Blocks, is_plain: bool) -> list[int]:
@@ -811,7 +1034,7 @@ def check_pits(report: Report, pit: str, blocks: Blocks, is_plain: bool) -> list
 
 
 def check_pit(
-    report: Report, blocks: Blocks, verdict: dict[str, Any], found: Judged, plain: str | None
+    report: Report, blocks: Blocks, verdict: dict[str, Any], judged: Judged, plain: str | None
 ) -> None:
     """A certificate: its digest, its factor, `pit check`, what plainly.py says of it if that was
     asked, and its blocks added up. Without the factor a pit that is worth the same at another one,
@@ -819,26 +1042,26 @@ def check_pit(
     factor, at = verdict["factor"], f"factor {share_text(verdict['factor'])}"
     wanted = f"ACCEPTED {verdict['count']} {verdict['worth']}"
     report.check(
-        found.digest == verdict["certificate"],
+        judged.digest == verdict["certificate"],
         f"the certificate at {at} is the one whose pit is shown",
     )
-    its = "no factor" if found.factor is None else f"factor {share_text(found.factor)}"
-    report.check(found.factor == factor, f"the certificate at {at} is of {its}")
+    its = "no factor" if judged.factor is None else f"factor {share_text(judged.factor)}"
+    report.check(judged.factor == factor, f"the certificate at {at} is of {its}")
     report.check(
-        found.said == wanted,
-        f"pit check at {at}: {found.said}"
+        judged.said == wanted,
+        f"pit check at {at}: {judged.said}"
         + (
             ""
-            if found.said == wanted
-            else f", and the bundle says {wanted}{other_mine(found.of, len(blocks.places))}"
+            if judged.said == wanted
+            else f", and the bundle says {wanted}{other_mine(judged.of, len(blocks.places))}"
         ),
     )
     if plain is not None:
         report.check(plain == wanted, f"plainly.py at {at}: {plain}")
-    worth = spelled(sum(blocks.worth(block, factor) for block in found.held))
+    worth = spelled(sum(blocks.worth(block, factor) for block in judged.held))
     report.check(
-        worth == verdict["worth"] and len(found.held) == verdict["count"],
-        f"its {len(found.held):,} blocks add up to {worth}",
+        worth == verdict["worth"] and len(judged.held) == verdict["count"],
+        f"its {len(judged.held):,} blocks add up to {worth}",
     )
 
 
@@ -859,15 +1082,18 @@ def check_series(report: Report) -> None:
     )
 
 
-def series(said: Any) -> list[int]:
+def series(factors: Any) -> list[int]:
     """The factors of [shells], in thousandths."""
-    if isinstance(said, dict):
-        low, high, step = (float(said[key]) for key in SERIES)
+    if isinstance(factors, dict):
+        low, high, step = (float(factors[key]) for key in SERIES)
         if not step > 0 or not 0 <= (high - low) / step <= 10 * THOUSAND:
-            raise Bad(f"factors = {said} is no series")
+            raise Bad(f"factors = {factors} is no series")
         count = int((high - low) / step + 1e-9)
-        said = [low + i * step for i in range(count + 1)]
-    return [round(float(share) * THOUSAND) for share in said]
+        factors = [low + i * step for i in range(count + 1)]
+    return [round(float(share) * THOUSAND) for share in factors]
+
+
+# --- The economics of study.toml: metals, and processes or a mill ---
 
 
 def study_of(section: str, *keys: str) -> dict[str, Any]:
@@ -878,6 +1104,51 @@ def study_of(section: str, *keys: str) -> dict[str, Any]:
         {key: STUDY[section][key] for key in keys},
         NEEDED,
     )
+
+
+def check_keys(report: Report) -> None:
+    """study.toml has no key that nothing reads: what that says would be in no number."""
+    strange = [
+        where + shown(key)
+        for where, table, known in keys_known(toml_of("study.toml"))
+        for key in table
+        if key not in known
+    ]
+    report.check(
+        not strange,
+        "each key of study.toml is one that pitplan reads"
+        + (f": not so for {'; '.join(strange[:TOLD])}" if strange else ""),
+    )
+
+
+def keys_known(plan: dict[str, Any]) -> Iterator[tuple[str, dict[str, Any], Collection[Any]]]:
+    """The tables of study.toml, each with where it is and the keys that it may have."""
+    yield "", plan, STUDY
+    for section, kinds in STUDY.items():
+        yield f"[{section}] ", table_in(plan, section), {*kinds, *TO_BUILD.get(section, ())}
+    yield "[model] columns, ", table_in(table_in(plan, "model"), "columns"), ROLES
+    economics = table_in(plan, "economics")
+    names = [metal.get("name") for metal in tables_in(economics, "metals")]
+    for i, metal in enumerate(tables_in(economics, "metals"), 1):
+        yield f"[economics] metals, number {i}, ", metal, METAL
+    for i, process in enumerate(tables_in(economics, "processes"), 1):
+        yield f"[economics] processes, number {i}, ", process, PROCESS
+        for key in ("recovery", "payable"):
+            where = f"[economics] processes, number {i}, {key}, "
+            yield where, table_in(process, key), names
+
+
+def table_in(section: dict[str, Any], key: str) -> dict[str, Any]:
+    """The table that a key has; one without keys where it has none."""
+    found = section.get(key)
+    return found if isinstance(found, dict) else {}
+
+
+def tables_in(section: dict[str, Any], key: str) -> list[dict[str, Any]]:
+    """The list of tables that a key has; of what is no table one without keys."""
+    found = section.get(key)
+    listed = found if isinstance(found, list) else []
+    return [each if isinstance(each, dict) else {} for each in listed]
 
 
 def economics_of() -> dict[str, Any]:
@@ -933,31 +1204,7 @@ def treatments_of(economics: dict[str, Any]) -> list[Treatment]:
     return found
 
 
-def other_mine(of: int | None, here: int) -> str:
-    """What to add where a certificate's header tells that it is of another mine."""
-    return (
-        ""
-        if of is None or of == here
-        else f": the certificate is of another mine, of {of:,} blocks, and the model has {here:,}"
-    )
-
-
-def plainly(paths: list[Path]) -> list[str]:
-    """What plainly.py says of these certificates, for each a line."""
-    words = ["--blocks", "model/mine.blocks", "--settings", "model/settings.toml"]
-    run = subprocess.run(
-        [sys.executable, "-I", str(within("plainly.py")), *words, *map(str, paths)],
-        cwd=HERE,
-        stdout=subprocess.PIPE,
-        text=True,
-    )
-    lines = run.stdout.splitlines()
-    # where the model can't be read, that is the one line
-    return (
-        (lines + lines[-1:] * (len(paths) - len(lines)))[: len(paths)]
-        if lines
-        else ["no answer"] * len(paths)
-    )
+# --- The planner's table, read anew; sub-blocks added up into whole blocks ---
 
 
 class Table:
@@ -969,6 +1216,8 @@ class Table:
         The cells of each row that isn't blank, by its number below the header line.
     passed : dict
         Likewise those that were passed over, as descriptions.
+    more : dict
+        Likewise rows that stand for blocks that were added, after all others.
     """
 
     def __init__(self, facts: dict[str, Any], absent: list[str]) -> None:
@@ -984,6 +1233,7 @@ class Table:
         }
         self.name: str = facts["table"]
         self.names, filled = self.read()
+        self.more = dict[int, list[str]]()
         self.rows, self.passed = (
             {i: row for i, row in filled.items() if (i >= self.dialect["skip"]) == is_block}
             for is_block in (True, False)
@@ -998,12 +1248,10 @@ class Table:
         is_packed = path.suffix.lower() == ".gz"
         if is_packed:
             with open(path, "rb") as packed:
-                for _ in pieces(
+                refuse_endless(
                     packed,
                     max(SMALL, min(MOST_TIMES * path.stat().st_size, free_memory() // HELD)),
-                    "a table",
-                ):
-                    pass
+                )
         try:
             with gzip.open(path, "rt", 9, encoding, newline="") if is_packed else open(
                 path, encoding=encoding, newline=""
@@ -1022,12 +1270,15 @@ class Table:
         """Raises Bad where a file names a column that the table hasn't."""
         if column not in self.at:
             raise Bad(
-                f"{where} {key} is {shown(column)}, and has to be a column of {self.name}: {shown(', '.join(self.names))}"
+                (
+                    f"{where} {key} is {shown(column)}, and has to be a column of {self.name}:"
+                    f" {shown(', '.join(self.names))}"
+                )
             )
 
     def word(self, row: int, column: str) -> str:
         """A cell as it stands."""
-        cells = self.rows[row]
+        cells = self.more[row] if row in self.more else self.rows[row]
         return cells[self.at[column]] if self.at[column] < len(cells) else ""
 
     def number(self, row: int, column: str) -> float:
@@ -1202,6 +1453,9 @@ class AddedUp(Table):
         return sum(self.weight[part] for part in self.of[row])
 
 
+# --- Formulas of study.toml, worked out row by row ---
+
+
 @cache
 def parsed(text: str) -> ast.expr:
     """A formula as a tree: it is the same for each row."""
@@ -1320,6 +1574,9 @@ def yes_or_no(value: Any) -> bool:
     return value
 
 
+# --- Revenue and cost of each row, by the economics of study.toml ---
+
+
 class Worked(NamedTuple):
     """What the table and [economics] make of a block: what becomes of it by each way to treat it,
     what digging it costs, its tonnes, those of its ore, and of each metal of a block that one of
@@ -1351,6 +1608,13 @@ class OfRows(NamedTuple):
     fenced: list[int]
 
 
+class Own(NamedTuple):
+    """What an added block weighs, and its rock."""
+
+    tonnes: float
+    rock: str
+
+
 class Economics:
     """[economics] of study.toml, worked out again for each row of the table."""
 
@@ -1369,6 +1633,7 @@ class Economics:
             raise Bad("sub-blocks are ore in part, which pitplan refuses")
         self.has_words: dict[str, bool] = {}
         self.is_weighing = False
+        self.own = dict[int, Own]()  # of the rows of added blocks
         self.sum_of: Callable[[int], float] | None = None  # what sub-blocks weigh by themselves
         if (
             isinstance(table, AddedUp)
@@ -1381,6 +1646,9 @@ class Economics:
             table.asked(f"study.toml: [economics] metals, number {i},", "grade", metal["grade"])
 
     def rock(self, row: int) -> str:
+        """The rock of a row: of an added block its own, and "rock" where no column says it."""
+        if row in self.own:
+            return self.own[row].rock
         return (
             self.table.word(row, self.columns["rock"]).strip() if "rock" in self.columns else "rock"
         )
@@ -1388,6 +1656,8 @@ class Economics:
     def tonnes(self, row: int) -> float:
         """Of a block: as the formula of [model] says, or as its columns do; of it the part that is
         rock. Of sub-blocks the sum of what each weighs so."""
+        if row in self.own:
+            return self.own[row].tonnes
         if self.sum_of is not None:
             return self.sum_of(row)
         if self.weight is None:
@@ -1450,22 +1720,26 @@ class Economics:
         except (Bad, *UNWORKABLE) as error:
             why = error if isinstance(error, Bad) else "it is no formula, or it counts with words"
             raise Bad(
-                f"study.toml: [{section}] {key} is {shown(text)}, and has to be a formula that can be worked out; for row {row + 2} of {self.table.name} it can't be: {why}"
+                (
+                    f"study.toml: [{section}] {key} is {shown(text)}, and has to be a formula"
+                    f" that can be worked out; for row {row + 2} of {self.table.name} it can't"
+                    f" be: {why}"
+                )
             ) from None
         finally:
             self.is_weighing = False
 
-    def amount(self, key: str, given: Any, row: int) -> float:
+    def amount(self, key: str, value: Any, row: int) -> float:
         """A number, a column, a formula, or a number by rock."""
-        if isinstance(given, dict):
-            return float(given.get(self.rock(row), given.get("other", 0.0)))
-        if isinstance(given, str):
+        if isinstance(value, dict):
+            return float(value.get(self.rock(row), value.get("other", 0.0)))
+        if isinstance(value, str):
             return (
-                self.table.number(row, given)
-                if given in self.table.at
-                else float(self.formula(key, given, row, finite))
+                self.table.number(row, value)
+                if value in self.table.at
+                else float(self.formula(key, value, row, finite))
             )
-        return float(given)
+        return float(value)
 
     def is_fenced(self, row: int) -> bool:
         """Whether a formula of forbid keeps the block of a row, or one of its sub-blocks; it keeps
@@ -1496,8 +1770,11 @@ class Economics:
         plan, tonnes = self.plan, self.tonnes(row)
         ore, grades = tonnes * self.part(row, ORE), dict[str, float]()
         ways = [self.treated(row, ore, way, grades) for way in treatments_of(plan)]
-        mining = tonnes * self.amount("mining", plan["mining"], row)
-        return Worked(ways, mining, tonnes, ore, grades)
+        return Worked(ways, self.digging(row), tonnes, ore, grades)
+
+    def digging(self, row: int) -> float:
+        """What digging the block of a row costs."""
+        return self.tonnes(row) * self.amount("mining", self.plan["mining"], row)
 
     def treated(self, row: int, ore: float, way: Treatment, grades: dict[str, float]) -> Treated:
         """What the block of a row comes to by one way to treat it, nothing where it may not go
@@ -1579,6 +1856,9 @@ def codes_of(economics: dict[str, Any], by: str | None) -> set[str]:
     ) | ({by} if by else set())
 
 
+# --- Consistency: facts.json and manifest.json agree with the other files ---
+
+
 def check_facts(report: Report, blocks: Blocks, facts: dict[str, Any]) -> None:
     """What facts.json and model/manifest.json say of the other files is so, and is what study.toml
     asks for."""
@@ -1619,13 +1899,94 @@ def check_facts(report: Report, blocks: Blocks, facts: dict[str, Any]) -> None:
     report.check(
         currency == facts["currency"] == manifest["currency"], f"amounts are in {currency}"
     )
+    check_schedule_is_there(report, facts)
+
+
+# --- The plan by years: all its files are there, and pit schedule confirms it ---
+
+
+def check_schedule_is_there(report: Report, facts: dict[str, Any]) -> None:
+    """A plan by years is in the bundle where facts.json says so, with each of its files. Whether
+    one was found that isn't in it can't be judged here."""
+    there = [name for name in OF_SCHEDULE if within(name).exists()]
+    gone = sorted(set(OF_SCHEDULE) - set(there))
+    if facts["has_schedule"] or there:
+        report.check(
+            facts["has_schedule"] and not gone,
+            "the plan by years is in the bundle, which recheck_schedule.py checks"
+            + (f": not so for {', '.join(gone)}" if gone else "")
+            + ("" if facts["has_schedule"] else ": facts.json says that it has none"),
+        )
+    elif "schedule" in toml_of("study.toml"):
+        report.say(
+            "look",
+            "study.toml asks for a plan by years, and the bundle has none:"
+            " ask whether none was found, or it was taken out",
+        )
+
+
+def is_planned_by_blocks() -> bool:
+    """Whether study.toml asks for a plan of single blocks, whose bound is over model/; that of panels
+    or pushbacks is over a mine of units, which recheck_schedule.py makes again."""
+    terms = study_of("schedule", *STUDY["schedule"])
+    return terms.get("panel", 1) == 1 and not terms.get("pushbacks")
+
+
+def of_cutoff() -> str:
+    """Of which choice of ways a bound is, by study.toml."""
+    cutoff = study_of("schedule", "cutoff").get("cutoff", "fixed")
+    where = "where it is worth most at the full price" if cutoff == "fixed" else "by whichever way"
+    return f', whose bound is of schedules with each block {where} (cutoff = "{cutoff}")'
+
+
+def check_planned(report: Report, pit: str, is_plain: bool) -> None:
+    """What `pit schedule` says of the plan by years: of single blocks beside its bound, over the pit at
+    the full price; and of that bound plainly.py, where it is asked."""
+    if not all(within(name).exists() for name in OF_SCHEDULE):
+        return
+    words = [
+        *("--blocks", str(within("model/mine.blocks"))),
+        *("--settings", str(within("model/settings.toml"))),
+        *("--uses", str(within("schedule/uses.blocks"))),
+        *("--periods", str(within("schedule/periods.toml"))),
+    ]
+    is_by_blocks = is_planned_by_blocks()
+    packed = {"--best": "schedule/bound.cert.gz", "--pit": "certificates/f01000.cert.gz"}
+    with tempfile.TemporaryDirectory() as work:
+        more = ["--factor", "1000"]
+        if is_by_blocks:
+            more = [word for option in packed for word in (option, f"{work}/cert{option}")]
+            for option, name in packed.items():
+                with open(within(name), "rb") as file, open(f"{work}/cert{option}", "wb") as text:
+                    text.writelines(pieces(file, MOST_UNPACKED, "a certificate"))
+        plan = str(within("schedule/schedule.txt"))
+        ran = subprocess.run(
+            [pit, "schedule", *words, *more, "--verbose", plan],
+            stdout=subprocess.PIPE,
+            stderr=subprocess.STDOUT,
+            text=True,
+        )
+    found = PLANNED.fullmatch(ran.stdout)
+    is_so = ran.returncode == 0 and found is not None and is_by_blocks == bool(found[3])
+    said = " ".join(ran.stdout.split())
+    report.check(
+        is_so,
+        f"pit schedule of the plan by years{of_cutoff() if is_by_blocks else ''}: {said[:400]}",
+    )
+    if is_plain and is_by_blocks and found:
+        pit_of = ["--pit", str(within(packed["--pit"]))]
+        (line,) = plainly([within(packed["--best"])], [*words[4:], *pit_of])
+        report.check(line == f"BOUND {found[3]}", f"plainly.py of its bound: {line}")
+
+
+# --- Model against table: place, tonnage, revenue and cost of each block ---
 
 
 def check_table(report: Report, blocks: Blocks, facts: dict[str, Any]) -> OfRows | None:
     """Each block's place, tonnes and amounts are those of its row of the planner's table, or of its
     sub-blocks added up again. Gives what the rows say, None where they aren't those of the
     blocks."""
-    model = study_of("model", "absent", "missing", "widen", "regularise")
+    model = study_of("model", "absent", "regularise")
     report.say(
         "look",
         "the columns that were taken: "
@@ -1635,7 +1996,28 @@ def check_table(report: Report, blocks: Blocks, facts: dict[str, Any]) -> OfRows
     economics = Economics(economics_of(), table, facts)
     check_passed(report, table, facts)
     rows = [line.row - 2 for line in numbering()]
-    known = [row for row in rows if row >= 0]
+    if not check_rows(report, table, blocks, rows):
+        return None
+    is_placed_well = check_places(report, table, economics, blocks, rows)
+    asked = asked_for(report, blocks, rows) if is_placed_well else {}
+    strange = added_without_need(blocks, rows, asked)
+    if strange:
+        report.check(
+            False,
+            f"{len(strange):,} blocks have no row, and study.toml asks for none (widen, missing)",
+        )
+    found = Added(table, economics, blocks, rows, asked)
+    check_added(report, blocks, found)
+    fenced = [b for b, row in enumerate(found.rows) if row >= 0 and economics.is_fenced(row)]
+    return OfRows(
+        found.regions(),
+        check_amounts(report, economics, blocks, found, set(fenced)),
+        fenced,
+    )
+
+
+def check_rows(report: Report, table: Table, blocks: Blocks, rows: list[int]) -> bool:
+    """Each row of the table, or of sub-blocks the first of each block, is that of one block."""
     wanted, what = (
         list(table.rows),
         f"each of the {len(table.rows):,} rows of the table is one block",
@@ -1645,33 +2027,247 @@ def check_table(report: Report, blocks: Blocks, facts: dict[str, Any]) -> OfRows
             list(table.of),
             f"the {len(table.rows):,} rows of the table are {len(table.of):,} blocks, each in its first row",
         )
-    if not report.check(len(rows) == len(blocks.places) and sorted(known) == sorted(wanted), what):
-        return None
+    known = [row for row in rows if row >= 0]
+    return report.check(len(rows) == len(blocks.places) and sorted(known) == sorted(wanted), what)
+
+
+def check_places(
+    report: Report, table: Table, economics: Economics, blocks: Blocks, rows: list[int]
+) -> bool:
+    """Each block lies where its row says, and weighs that; blocks are of the table's own size. Says
+    whether all of that holds."""
     steps: dict[str, Callable[[int, int], bool]] = {
-        "place": lambda b, row: is_placed(table, row, blocks.places[b], facts),
-        "tonnage": lambda b, row: math.isfinite(blocks.tonnes[b])
-        and abs(economics.tonnes(row) - blocks.tonnes[b]) <= 6e-4 + 1e-9 * blocks.tonnes[b],
+        "place": lambda b, row: is_placed(table, row, blocks.places[b], table.facts),
+        "tonnage": lambda b, row: is_of_weight(economics.tonnes(row), blocks.tonnes[b]),
     }
+    holds = True
     for what, is_right in steps.items():
         bad = [row for b, row in enumerate(rows) if row >= 0 and not is_right(b, row)]
-        report.check(
+        holds &= report.check(
             not bad,
             f"the {what} of each block is that of its row"
             + (f": not so for {len(bad):,}, the first is row {bad[0] + 2}" if bad else ""),
         )
-    fenced = [b for b, row in enumerate(rows) if row >= 0 and economics.is_fenced(row)]
-    is_asked = model.get("widen", 0) != 0 or model.get("missing", "refuse") != "refuse"
-    strange = [] if is_asked else added_without_need(blocks, rows)
-    if strange:
-        report.check(
-            False,
-            f"{len(strange):,} blocks have no row, and study.toml asks for none (widen, missing)",
-        )
-    return OfRows(
-        regions_of(table, rows, economics, blocks),
-        check_amounts(report, economics, blocks, rows, set(fenced)),
-        fenced,
+    fault = fault_of_size(table, [place for place, row in zip(blocks.places, rows) if row >= 0])
+    return holds & report.check(
+        fault is None,
+        "blocks are as large as the table has them apart" + (f": {fault}" if fault else ""),
     )
+
+
+def is_of_weight(ours: float, theirs: float) -> bool:
+    """Whether tonnes of mine.blocks, which have three decimals, are these."""
+    return math.isfinite(theirs) and abs(ours - theirs) <= 6e-4 + 1e-9 * theirs
+
+
+def fault_of_size(table: Table, places: list[tuple[int, ...]]) -> str | None:
+    """What is wrong with the size of blocks, of which these have rows: along an axis no two are
+    neighbours; or it isn't the largest in the table's own columns where study.toml gives none."""
+    size, columns = table.facts["grid"]["size"], table.facts["columns"]
+    for axis, length in zip(range(3), size):
+        at = {place[axis] for place in places}
+        apart = math.gcd(*(each - min(at) for each in at))
+        if apart > 1:
+            return f"along {'xyz'[axis]} no two are neighbours, all are {apart} of {length:g} apart"
+    if "size" in study_of("model", "size"):
+        return None
+    for key, length in zip(("dx", "dy", "dz"), size):
+        cells = [Table.number(table, row, columns[key]) for row in table.rows if key in columns]
+        if not math.isclose(max(cells, default=math.nan), length, rel_tol=1e-9):
+            return f"study.toml gives no size, and {length:g} isn't the largest {key} of the table"
+    return None
+
+
+# --- Blocks that have no row: those that [model] adds, and air beside steep ground ---
+
+
+class Copied(NamedTuple):
+    """What an added block is a copy of, by its row, and whether it fills a hole."""
+
+    row: int
+    fills: bool
+
+
+Asked = dict[tuple[int, ...], Copied]  # by place
+Columns = dict[tuple[int, ...], dict[int, Copied]]  # by place in plan and level
+
+
+def asked_for(report: Report, blocks: Blocks, rows: list[int]) -> Asked:
+    """The places at which [model] adds blocks, once they are there: holes between the rows of a
+    column, each a copy of the next row above it, and then columns on each side, each a copy of the
+    nearest one."""
+    model = study_of("model", "missing", "widen")
+    columns: Columns = defaultdict(dict)
+    for place, row in zip(blocks.places, rows):
+        if row >= 0:
+            columns[place[:2]][place[2]] = Copied(row, False)
+    is_open = model.get("missing", "refuse") == "refuse"
+    holes = sum(max(each) - min(each) + 1 - len(each) for each in columns.values())
+    most = len(blocks.places) - sum(map(len, columns.values()))  # without a row
+    if is_open and holes:
+        report.check(False, f"{holes:,} places within the model have no row, which pitplan refuses")
+    if not is_open and holes > most:
+        report.check(
+            False, f"study.toml asks for {holes:,} blocks by missing, and {most:,} are there"
+        )
+    found = {} if is_open or holes > most else filled(columns)
+    for place, copied in found.items():
+        columns[place[:2]][place[2]] = copied
+    if model.get("widen"):
+        found |= widened(columns, model["widen"], most)
+    there = {place for place, row in zip(blocks.places, rows) if row < 0}
+    gone = sorted(set(found) - there)
+    if found:
+        report.check(
+            not gone,
+            "the blocks that widen and missing of study.toml ask for are there"
+            + (f": not so for {len(gone):,}, the first is at {[*gone[0]]}" if gone else ""),
+        )
+    return found
+
+
+def filled(stacks: Columns) -> Asked:
+    """The holes of stacks of blocks."""
+    found: Asked = {}
+    for column, levels in stacks.items():
+        above = levels[max(levels)]
+        for z in range(max(levels), min(levels), -1):
+            above = levels.get(z, above)
+            if z not in levels:
+                found[(*column, z)] = Copied(above.row, True)
+    return found
+
+
+def widened(stacks: Columns, count: int, most: int) -> Asked:
+    """So many columns on each side of others; no more blocks than `most` and one, which is enough
+    to see that some aren't there."""
+    (low_x, high_x), (low_y, high_y) = ((min(each), max(each)) for each in zip(*stacks))
+    sides = (high - low + 1 + 2 * count for low, high in ((low_x, high_x), (low_y, high_y)))
+    if math.prod(sides) > MOST_BLOCKS:
+        raise Bad(
+            f"study.toml: [model] widen is {shown(count)}, and makes more blocks than pit reads"
+        )
+    found: Asked = {}
+    for x in range(low_x - count, high_x + count + 1):
+        for y in range(low_y - count, high_y + count + 1):
+            near = min(max(x, low_x), high_x), min(max(y, low_y), high_y)
+            if near != (x, y):
+                found |= {(x, y, z): each for z, each in stacks.get(near, {}).items()}
+            if len(found) > most:
+                return found
+    return found
+
+
+def fill_of(model: dict[str, Any]) -> dict[str, Any]:
+    """What a block that fills a hole is, by the keys of [model]: rock, as `fill` says, or air."""
+    if study_of("model", "missing").get("missing") != "rock":
+        return AIR
+    found: dict[str, Any] = model.get("fill", {})
+    if not is_number(found.get("tonnes"), 0) or not is_word(found.get("rock")):
+        raise Bad(
+            "study.toml: [model] fill says no tonnes or no rock, and missing = 'rock' needs both"
+        )
+    return found
+
+
+class Added:
+    """The rows of all blocks, where each that was added has one of its own: that of the block of
+    which it is a copy, at its own place, with what `fill` says, or of air; of a model of sub-blocks
+    such a row is none.
+
+    Attributes
+    ----------
+    rows : list of int
+        -1 of a block without one.
+    sources : dict
+        By the number of an added block what it is a copy of, and what it weighs.
+    """
+
+    def __init__(
+        self, table: Table, economics: Economics, blocks: Blocks, rows: list[int], asked: Asked
+    ) -> None:
+        self.table, self.economics, self.blocks, self.asked = table, economics, blocks, asked
+        self.of_table, self.rows, self.fill = rows, list(rows), fill_of(study_of("model", "fill"))
+        self.sources, self.over = dict[int, tuple[int, float]](), dict[int, int]()
+        self.top = self.tops()
+        for b, (place, row) in enumerate(zip(blocks.places, rows)):
+            if row < 0 and (place in asked or place[:2] in self.top):
+                self.take(b, place)
+
+    def take(self, b: int, place: tuple[int, ...]) -> None:
+        """Takes in a block that was added: one that was asked for, or air above another one."""
+        copied = self.asked.get(place)
+        if copied is None:
+            self.over[b] = self.top[place[:2]]
+        source = copied.row if copied else self.row_of(self.top[place[:2]])
+        fill = AIR if copied is None else self.fill if copied.fills else {}
+        self.sources[b] = source, float(fill.get("tonnes", self.economics.tonnes(source)))
+        if not isinstance(self.table, AddedUp):
+            self.add(b, max(self.table.rows) + len(self.sources), fill)
+
+    def tops(self) -> dict[tuple[int, ...], int]:
+        """The highest block of each column that has a row or was asked for."""
+        found = dict[tuple[int, ...], int]()
+        for b, place in enumerate(self.blocks.places):
+            if self.of_table[b] >= 0 or place in self.asked:
+                column = place[:2]
+                if column not in found or self.blocks.places[found[column]][2] < place[2]:
+                    found[column] = b
+        return found
+
+    def row_of(self, block: int) -> int:
+        """The row of a block, or of that of which it is a copy."""
+        row = self.of_table[block]
+        return row if row >= 0 else self.asked[self.blocks.places[block]].row
+
+    def add(self, block: int, row: int, fill: dict[str, Any]) -> None:
+        """Adds the row of a block."""
+        table, (source, weight) = self.table, self.sources[block]
+        places = centre_of(self.blocks.places[block], table.facts)
+        own = {table.facts["columns"][key]: value for key, value in zip("xyz", places)}
+        cells = table.rows[source] + [""] * (len(table.names) - len(table.rows[source]))
+        for name, value in {**own, **fill}.items():
+            if name in table.at:
+                text = value if isinstance(value, str) else repr(value)
+                cells[table.at[name]] = (
+                    text if isinstance(value, str) else text.replace(".", table.dialect["decimal"])
+                )
+        rock = str(fill["rock"]) if "rock" in fill else self.economics.rock(source)
+        table.more[row], self.economics.own[row] = cells, Own(weight, rock)
+        self.rows[block] = row
+
+    def regions(self) -> list[int | None]:
+        """The list of offsets of each block. Air above the ground has that of the highest block of
+        its column where a formula gives it."""
+        found = regions_of(self.table, self.rows, self.economics, self.blocks)
+        by = str(study_of("slopes", "by").get("by", ""))
+        if by not in (*self.table.at, *self.table.facts["columns"]):
+            for block, highest in self.over.items():
+                found[block] = found[highest]
+        return found
+
+
+def check_added(report: Report, blocks: Blocks, added: Added) -> None:
+    """Blocks without a row weigh what study.toml says, and each that can be worked out is told."""
+    bad = [
+        b for b, (_, weight) in added.sources.items() if not is_of_weight(weight, blocks.tonnes[b])
+    ]
+    count = sum(row < 0 for row in added.of_table)
+    if not count:
+        return
+    report.check(
+        not bad,
+        f"{count:,} blocks have no row (widen, missing, air beside steep ground), and weigh what"
+        " study.toml says"
+        + (f": not so for {len(bad):,}, the first is block {bad[0]}" if bad else ""),
+    )
+    unknown = sum(row < 0 for row in added.rows)
+    if unknown:
+        report.say(
+            "look",
+            f"{unknown:,} blocks that have no row bring nothing; what digging them costs and their"
+            " regions aren't worked out again",
+        )
 
 
 def table_of(report: Report, facts: dict[str, Any], model: dict[str, Any]) -> Table:
@@ -1692,17 +2288,20 @@ def table_of(report: Report, facts: dict[str, Any], model: dict[str, Any]) -> Ta
     return table
 
 
-def added_without_need(blocks: Blocks, rows: list[int]) -> list[int]:
-    """The blocks without a row that aren't air above the ground, which slopes lead through beside a
-    cliff: that has no tonnes, brings nothing and costs nothing."""
+def added_without_need(
+    blocks: Blocks, rows: list[int], filled_places: Collection[tuple[int, ...]] = ()
+) -> list[int]:
+    """The blocks without a row that aren't asked for, and aren't air above the ground, which slopes
+    lead through beside a cliff: that has no tonnes, brings nothing and costs nothing."""
     ground: dict[tuple[int, ...], int] = {}
     for place, row in zip(blocks.places, rows):
-        if row >= 0:
+        if row >= 0 or place in filled_places:
             ground[place[:2]] = max(place[2], ground.get(place[:2], -1))
     return [
         b
         for b, (place, row) in enumerate(zip(blocks.places, rows))
         if row < 0
+        and place not in filled_places
         and (
             blocks.tonnes[b]
             or any(map(any, blocks.amounts[b].ways))
@@ -1769,7 +2368,10 @@ def regions_by_formula(
             word = Formula(by, cell, off).value()
         except (Bad, *UNWORKABLE) as error:
             raise Bad(
-                f"study.toml: [slopes] by is {shown(by)}, which can't be worked out for row {row + 2} of {economics.table.name}: {error}"
+                (
+                    f"study.toml: [slopes] by is {shown(by)}, which can't be worked out for row"
+                    f" {row + 2} of {economics.table.name}: {error}"
+                )
             ) from None
         is_whole_number = isinstance(word, float) and word.is_integer()
         return f"{word:.0f}" if is_whole_number else str(word).strip()
@@ -1826,49 +2428,39 @@ def numbering() -> list[Numbered]:
 
 
 def check_amounts(
-    report: Report, economics: Economics, blocks: Blocks, rows: list[int], fenced: set[int]
+    report: Report, economics: Economics, blocks: Blocks, added: Added, fenced: set[int]
 ) -> list[Worked | None]:
     """What each block brings and costs, by the table and [economics]; gives it, None of blocks
-    without a row. Those of `fenced` may not be dug, and digging one costs more than the mine
-    brings."""
+    without a row of the table. Those of `fenced` may not be dug, and digging one costs more than
+    the mine brings."""
     bad, most = [], 2 * sum(max(way[0] for way in each.ways) for each in blocks.amounts)
-    worked = [economics.of_row(row) if row >= 0 else None for row in rows]
-    for b, (row, ours) in enumerate(zip(rows, worked)):
+    worked = [economics.of_row(row) if row >= 0 else None for row in added.of_table]
+    for b, (row, ours) in enumerate(zip(added.rows, worked)):
         ways, mining = blocks.amounts[b]
         if ours is None:
             is_right = not any(map(any, ways)) and 0 <= mining
         else:
-            is_right = (
-                len(ways) == len(ours.ways)
-                and all(
-                    economics.is_near(way.revenue, revenue)
-                    and economics.is_near(way.processing, processing)
-                    for way, (revenue, processing) in zip(ours.ways, ways)
-                )
-                and (mining > most if b in fenced else economics.is_near(ours.mining, mining))
+            is_right = len(ways) == len(ours.ways) and all(
+                economics.is_near(way.revenue, revenue)
+                and economics.is_near(way.processing, processing)
+                for way, (revenue, processing) in zip(ours.ways, ways)
             )
+        if row >= 0:
+            digging = economics.digging(row)
+            is_right &= mining > most if b in fenced else economics.is_near(digging, mining)
         if not is_right:
-            bad.append((b, row))
-    more = (
-        f": not so for {len(bad):,} blocks, the first is {bad[0][0]} of row {bad[0][1] + 2}"
-        if bad
-        else ""
-    )
+            bad.append((b, added.of_table[b]))
+    more = f": not so for {len(bad):,} blocks, the first is {bad[0][0]}" if bad else ""
+    more += f" of row {bad[0][1] + 2}" if bad and bad[0][1] >= 0 else ""
     report.check(
         not bad,
-        "what each block brings and costs, worked out again from the table and study.toml, is what pit was given"
+        "what each block brings and costs in model/mine.blocks is what the table and study.toml come to"
         + more,
     )
     if fenced:
         report.say(
             "ok",
             f"{len(fenced):,} blocks may not be dug by forbid, and cost more than the whole mine brings",
-        )
-    added = sum(row < 0 for row in rows)
-    if added:
-        report.say(
-            "look",
-            f"{added:,} blocks have no row (widen, missing, air beside steep ground): they bring nothing, and what digging them costs isn't worked out again",
         )
     return worked
 
@@ -1917,6 +2509,9 @@ def is_placed(table: Table, row: int, place: tuple[int, ...], facts: dict[str, A
             "xyz", centre_of(place, facts), (min(grid["size"][:2]),) * 2 + (grid["size"][2],)
         )
     )
+
+
+# --- Tables of results: shells, benches and blocks add up to what the certificates say ---
 
 
 class Part:
@@ -2044,9 +2639,9 @@ class Sum:
         )
 
 
-def is_close(found: float, value: float, far: float) -> bool:
+def is_close(number: float, value: float, far: float) -> bool:
     """Whether a number is no further off than that, except for how numbers are rounded."""
-    return math.isclose(found, value, rel_tol=1e-9, abs_tol=far)
+    return math.isclose(number, value, rel_tol=1e-9, abs_tol=far)
 
 
 class Line(NamedTuple):
@@ -2090,12 +2685,21 @@ class Line(NamedTuple):
 
 def read_table(name: str) -> list[Line]:
     """The lines of a table of the bundle."""
-    path = f"tables/{name}"
+    path, found = f"tables/{name}", list[Line]()
     try:
         with open(within(path), newline="", encoding="utf-8") as file:
-            return [Line(path, n, cells) for n, cells in enumerate(csv.DictReader(file), 2)]
+            rows = csv.reader(file)
+            names: list[str] = next(rows, [])
+            twice = [shown(column) for column, n in Counter(names).items() if n > 1]
+            if twice:
+                raise Bad(f"{path} has the column {twice[0]} twice")
+            for n, row in enumerate(rows, 2):
+                if len(row) > len(names):
+                    raise Bad(f"{path}, line {n} has more cells than there are columns")
+                found.append(Line(path, n, dict(zip(names, row))))
     except (csv.Error, UnicodeDecodeError) as error:
         raise Bad(f"{path} is no table in UTF-8: {error}") from None
+    return found
 
 
 def bench_sums(
@@ -2166,6 +2770,9 @@ def check_tables(
     )
 
 
+# --- Slopes: no pit breaks them, and their offsets are those of the angles asked for ---
+
+
 def check_slopes(report: Report, blocks: Blocks, regions: list[int | None] | None) -> None:
     """A block that has a row of the table is in the region of that row; and how steep the walls are
     that the slopes of model/settings.toml make."""
@@ -2216,7 +2823,11 @@ def check_walls(report: Report, lists: list[list[list[int]]]) -> None:
         step = f"the offsets of {region}"
         report.attempt(step, check_offsets, report, step, offsets, wall, slopes)
         steeper, flatter = Outline(wall, offsets).extremes(True)
-        what = f"the slopes of {region}: a deep wall of model/settings.toml is at most {degrees(max(0.0, steeper))} degrees steeper and {degrees(max(0.0, -flatter))} flatter than study.toml asks"
+        what = (
+            f"the slopes of {region}: a deep wall of model/settings.toml is at most"
+            f" {degrees(max(0.0, steeper))} degrees steeper and {degrees(max(0.0, -flatter))}"
+            " flatter than study.toml asks"
+        )
         if is_safe and steeper > ROUNDED:
             report.check(False, f"{what}, by safe = true never steeper")
         else:
@@ -2265,6 +2876,9 @@ def degrees(value: float) -> str:
     return f"{value:.2f}" if value <= ROUNDED or value >= 0.005 else f"{value:.6f}"
 
 
+# --- Geometry of a pit wall: its angle at each bearing, by its offsets ---
+
+
 class Angles(NamedTuple):
     """The angles of study.toml: pairs of a bearing and degrees, ascending; between two of them the
     angle changes evenly."""
@@ -2298,12 +2912,12 @@ class Angles(NamedTuple):
 class Wall:
     """What is asked of a wall: its angles, in blocks of the grid."""
 
-    def __init__(self, asked: Angles, grid: dict[str, Any]) -> None:
-        self.asked, (self.x, self.y, self.z) = asked, map(float, grid["size"])
+    def __init__(self, angles: Angles, grid: dict[str, Any]) -> None:
+        self.asked, (self.x, self.y, self.z) = angles, map(float, grid["size"])
         turn = math.radians(grid["rotation"])
         self.sin, self.cos = math.sin(turn), math.cos(turn)
-        self.by_degree, self.leans = [asked.at(bearing) for bearing in range(360)], asked.leans()
-        degrees_of = [angle for _, angle in asked.pairs]
+        self.by_degree, self.leans = [angles.at(bearing) for bearing in range(360)], angles.leans()
+        degrees_of = [angle for _, angle in angles.pairs]
         self.flattest, self.steepest = (
             math.tan(math.radians(angle)) for angle in (min(degrees_of), max(degrees_of))
         )
@@ -2323,7 +2937,7 @@ class Wall:
 
     def levels(self, blocks: float) -> int:
         """How many levels up the wall is so many blocks out, where it is steepest."""
-        return math.ceil(blocks * max(self.x, self.y) * self.steepest / self.z * (1 - NEAR))
+        return math.ceil(blocks * max(self.x, self.y) * self.steepest / self.z * (1 - TOLERANCE))
 
 
 class Outline:
@@ -2407,6 +3021,9 @@ def half_hull(points: list[tuple[int, int]]) -> list[tuple[int, int]]:
     return found[:-1]
 
 
+# --- The fewest offsets of a wall, searched again ---
+
+
 class Cones:
     """The cones of a wall, up to some levels, the angles of each stretched by a share of their
     tangents. A set of columns of blocks is a whole number, a bit for each column, so that sets are
@@ -2422,7 +3039,7 @@ class Cones:
             for i in range(-across, across + 1)
             for j in range(-along, along + 1)
         )
-        columns = [column for column in columns if column[0] <= widest * levels * (1 + NEAR)]
+        columns = [column for column in columns if column[0] <= widest * levels * (1 + TOLERANCE)]
         self.far = [far for far, _, _ in columns]
         self.bits = [1 << ((j + along) * self.wide + i + across) for _, i, j in columns]
         self.unions = [0]
@@ -2432,19 +3049,23 @@ class Cones:
     def nearest(self, levels: float) -> int:
         """The columns that a cone comes to within some levels; of columns as far away as each other
         all or none."""
-        count = bisect_right(self.far, levels * (1 + NEAR))
-        while 0 < count < len(self.far) and self.far[count] <= self.far[count - 1] * (1 + NEAR):
+        count = bisect_right(self.far, levels * (1 + TOLERANCE))
+        while 0 < count < len(self.far) and self.far[count] <= self.far[count - 1] * (
+            1 + TOLERANCE
+        ):
             count += 1
         return self.unions[count // UNION] | sum(self.bits[count // UNION * UNION : count])
 
     def stretches(self, narrowest: float, most: int) -> list[float]:
         """The shares at which a cone has one block more, ascending; where there are too many, those
         of the lower levels."""
-        found, low, high = [1.0], narrowest * (1 - NEAR), self.widest * (1 + NEAR)
+        found, low, high = [1.0], narrowest * (1 - TOLERANCE), self.widest * (1 + TOLERANCE)
         for k in range(1, self.top + 1):
             found = sorted([*found, *(far / k for far in self.far if low <= far / k <= high)])
             found = [
-                each for before, each in zip([-1.0, *found], found) if each > before * (1 + NEAR)
+                each
+                for before, each in zip([-1.0, *found], found)
+                if each > before * (1 + TOLERANCE)
             ]
             if len(found) >= most:
                 break
@@ -2482,7 +3103,7 @@ class Found(NamedTuple):
 
     @property
     def is_held(self) -> bool:
-        return self.badness <= 1 + NEAR
+        return self.badness <= 1 + TOLERANCE
 
     def is_better(self, other: Found | None) -> bool:
         """Whether these are fewer, or as few and the wall errs less; a wall that errs too much comes
@@ -2491,7 +3112,7 @@ class Found(NamedTuple):
             return other is None or self.is_held
         if self.is_held and len(self.offsets) != len(other.offsets):
             return len(self.offsets) < len(other.offsets)
-        return self.badness < other.badness * (1 - NEAR)
+        return self.badness < other.badness * (1 - TOLERANCE)
 
 
 class Search:
@@ -2533,7 +3154,7 @@ class Search:
         seen = dict[tuple[Any, ...], tuple[float, float]]()
         for stretch in stretches:
             corners, count = list[tuple[int, int, int]](), 0
-            least = math.inf if best is None else max(1.0, best.badness) * (1 + NEAR)
+            least = math.inf if best is None else max(1.0, best.badness) * (1 + TOLERANCE)
             for offsets in cones.grown(stretch):
                 if best and best.is_held and len(offsets) > len(best.offsets):
                     break
@@ -2548,7 +3169,7 @@ class Search:
                 is_listed = set(offsets) == self.listed
                 if found.is_better(best) or is_listed and best and not best.is_better(found):
                     best = found
-                    least = max(1.0, best.badness) * (1 + NEAR)
+                    least = max(1.0, best.badness) * (1 + TOLERANCE)
         return best
 
     def flatter(self, levels: int) -> Found | None:
@@ -2595,6 +3216,9 @@ def fewest(
     return best.offsets
 
 
+# --- All checks, each after those that it depends on ---
+
+
 def check_all(report: Report, pit: str, is_plain: bool) -> None:
     """All steps, in the order of what rests on what."""
     report.attempt(SUMS, check_digests, report)
@@ -2614,6 +3238,7 @@ def check_all(report: Report, pit: str, is_plain: bool) -> None:
         "ok" if here == facts["pit"] else "look",
         f"the program here is {', '.join(here)}; the bundle was made by {', '.join(facts['pit'])}",
     )
+    report.attempt("the names of files and keys", check_names, report, blocks, facts)
     report.attempt("facts.json, model/manifest.json", check_facts, report, blocks, facts)
     found = report.attempt("the table", check_table, report, blocks, facts)
     report.attempt("the slopes", check_slopes, report, blocks, found.regions if found else None)
@@ -2626,6 +3251,7 @@ def check_all(report: Report, pit: str, is_plain: bool) -> None:
             "no pit has a block that forbid keeps"
             + (f": not so for {len(dug):,}, the first is block {dug[0]}" if dug else ""),
         )
+    report.attempt("the plan by years", check_planned, report, pit, is_plain)
     if shell is not None:
         report.attempt("the slopes of the pits", check_closed, report, blocks, shell)
         report.attempt(
@@ -2637,6 +3263,14 @@ def check_all(report: Report, pit: str, is_plain: bool) -> None:
             shell,
             found.worked if found else None,
         )
+
+
+def has_plan() -> bool:
+    """Whether anything of a plan by years is in the bundle."""
+    try:
+        return any(within(name).exists() for name in OF_SCHEDULE)
+    except (Bad, OSError):
+        return True
 
 
 def main() -> int:
@@ -2656,12 +3290,13 @@ def main() -> int:
     except (Bad, OSError):
         pass
     bad, looks = report.count["WRONG"], report.count["look"]
-    print(
+    said = (
         f"{bad} of {report.count.total()} things are WRONG"
         if bad
         else f"everything that was looked at holds: {report.count['ok']} things"
         + (f"; {looks} lines begin with look, and are yours to judge" if looks else "")
     )
+    print(said + ("; recheck_schedule.py checks the plan by years" if has_plan() else ""))
     return 1 if bad else 0
 
 

@@ -3,10 +3,11 @@
 
     python3 recheck_schedule.py
 
-It reads study.toml, the planner's table, the model in model/, the pit at the full price in certificates/, schedule/ and
-tables/, by the readers of recheck.py, which has to lie beside it. What periods weigh and have and what blocks use is worked
-out again. Of the certificate of the bound it takes the flow alone: no pit needs to be trusted, and none is run. That the pit
-at the full price is a best one, and the slopes, are for recheck.py. A line begins with ok or WRONG; the exit status is 0
+It reads study.toml, the planner's table, the model in model/, the pit at the full price in
+certificates/, schedule/ and tables/, by the readers of recheck.py, which has to lie beside it. What
+periods weigh and have and what blocks use is worked out again. Of the certificate of the bound it
+takes the flow alone: no pit needs to be trusted, and none is run. That the pit at the full price is
+a best one, and the slopes, are for recheck.py. A line begins with ok or WRONG; the exit status is 0
 where nothing is WRONG.
 """
 from __future__ import annotations
@@ -17,57 +18,59 @@ if __name__ == "__main__" and not (sys.flags.isolated or getattr(sys.flags, "saf
     del sys.path[0]  # no file beside this one is run for one of Python's library
 
 import copy
-import gzip
-import json
+import importlib.util
 import math
-import tomllib
+import re
+import zlib
 from collections.abc import Iterator
 from decimal import Decimal, localcontext
+from importlib.machinery import ModuleSpec, SourceFileLoader
 from pathlib import Path
-from typing import TYPE_CHECKING, Any, NamedTuple
+from types import CodeType
+from typing import TYPE_CHECKING, Any, BinaryIO, NamedTuple
 
 HERE = Path(__file__).resolve().parent
+
+
+# --- The readers of recheck.py, loaded from its text beside this script ---
+
+
+class TextLoader(SourceFileLoader):
+    """Loads a script from its text alone: never from code that lies compiled beside it."""
+
+    def get_code(self, fullname: str) -> CodeType:
+        path = self.get_filename(fullname)
+        code: CodeType = self.source_to_code(self.get_data(path), path)
+        return code
+
+
 if TYPE_CHECKING:
     from . import recheck
 else:
     sys.dont_write_bytecode = True  # a file that no digest is of would be WRONG
-    sys.path.append(str(HERE))
-    import recheck
+    _loader = TextLoader("recheck", str(HERE / "recheck.py"))
+    recheck = importlib.util.module_from_spec(ModuleSpec("recheck", _loader))
+    recheck.__file__ = _loader.path
+    sys.modules["recheck"] = recheck
+    _loader.exec_module(recheck)
 
+# --- Limits, and the values that the keys of [schedule] may have ---
 THOUSAND, MILLION = 1000, 10**6
+CHUNK_SIZE, MOST_TEXT, MOST_BYTES = (
+    1 << 20,
+    1 << 26,
+    1 << 34,
+)  # bytes: read at a time, of small texts, of others
 HELD = 10**30  # what a node is worth less whose block waits beyond its period, in 10^-15
-MOST_WAITS = 8  # that pit bound reads of a block
-FULL = 0.995  # of a capacity, from which on it is said to bind
+FULL = 0.995  # of a rate, from which on it is said to bind, whatever still fits
 WHEN = {"start": Decimal(0), "mid": Decimal("0.5"), "end": Decimal(1)}
 CUTOFFS = ("fixed", "by year")
-RATE = recheck.Kind(
-    "a number above 0, or a list of such numbers",
-    lambda value: all(
-        recheck.is_number(each, 1e-12) for each in (value if isinstance(value, list) else [value])
-    ),
-)
-COUNT = recheck.Kind("a whole number from 1 on", lambda value: recheck.is_whole(value, 1))
-TERMS = {
-    "years": COUNT,
-    "per_year": COUNT,
-    "when": recheck.one_of(*WHEN),
-    "mining_rate": RATE,
-    "mill_rate": RATE,
-    "discount": recheck.SHARE,
-    "sink": COUNT,
-    "panel": COUNT,
-    "cutoff": recheck.one_of(*CUTOFFS),
-    "pushbacks": recheck.Kind(
-        "a list of numbers above 0",
-        lambda value: isinstance(value, list)
-        and all(recheck.is_number(each, 1e-12) for each in value),
-    ),
-    "lead": recheck.Kind("a whole number from 0 on", lambda value: recheck.is_whole(value, 0)),
-    "fixed_cost": recheck.Kind(
-        "a number of at least 0", lambda value: recheck.is_number(value, 0.0)
-    ),
-}  # of [schedule] in study.toml
+TERMS = recheck.STUDY["schedule"]
+LINE = re.compile(rb"[A-Z0-9-]+(?: [A-Z0-9-]+)*")  # of a text that pit reads, but for those in TOML
 Rows = list[list[int]]  # of each block or unit those that it rests on
+
+
+# --- What is read: the mine, and its periods with their capacities and uses ---
 
 
 class Wrong(Exception):
@@ -82,22 +85,28 @@ class Quiet(recheck.Report):
 
 
 class Mine(NamedTuple):
-    """The model: its blocks, of each what digging it costs and what it gains by the mill at the full
-    price, in whole units of currency, whether it is rock, and what it rests on."""
+    """The model: its blocks, of each what digging it costs and what it gains by each way at the full
+    price, 0 where nothing, in whole units of currency; the number of the way by which it is worth most,
+    from 1, and 0 of waste; whether it is rock, and what it rests on."""
 
     blocks: recheck.Blocks
     costs: list[int]
-    gains: list[int]
+    gains: Rows
     ways: list[int]
     is_rock: list[bool]
     above: Rows
 
+    def gain(self, block: int, way: int) -> int:
+        """What a block gains by a way, from 1; nothing as waste, which is 0."""
+        return self.gains[block][way - 1] if way else 0
+
 
 class Periods(NamedTuple):
     """What schedule/ says: weights in millionths, what each period has and what a unit of that is
-    priced at, uses by resource and block, the unit of each block of the pit, the sink rate, the
-    blocks that are sent to the mill (None where all go there that gain by it), the pushback of each
-    block, how far one is ahead of the next, and what a period costs in which rock is dug."""
+    priced at, uses by resource and block, the unit of each block of the pit, the sink rate, the way,
+    from 1, of each block that is sent (None where each goes that by which it is worth most), the
+    pushback of each block, how far one is ahead of the next, and what a period costs in which rock is
+    dug."""
 
     weights: list[int]
     capacities: Rows
@@ -106,14 +115,14 @@ class Periods(NamedTuple):
     unit: dict[int, int]
     sink: int | None
     lag: int
-    sent: set[int] | None
+    sent: dict[int, int] | None
     pushback: dict[int, int]
     lead: int
     fixed_cost: int
 
-    def takes_feed(self, mine: Mine, block: int) -> bool:
-        """Whether a block goes to the mill once it is dug."""
-        return mine.gains[block] > 0 if self.sent is None else block in self.sent
+    def goes(self, mine: Mine, block: int) -> int:
+        """Which way a block goes once it is dug, from 1; 0 to waste."""
+        return mine.ways[block] if self.sent is None else self.sent.get(block, 0)
 
 
 def need(holds: bool, what: str) -> None:
@@ -122,22 +131,63 @@ def need(holds: bool, what: str) -> None:
         raise Wrong(what)
 
 
-def words_of(path: Path) -> Iterator[list[str]]:
-    """The lines of a text, as words."""
-    with gzip.open(path, "rt") if path.suffix == ".gz" else open(path) as file:
-        for line in file:
-            yield line.split()
+def words_of(name: str) -> Iterator[list[str]]:
+    """The lines of a text of the bundle, as words, read as pit reads it: a line ends at a line feed
+    alone, and a space parts two words, as pitplan writes it. One that is packed may hold some
+    thousand times its size, in lines of a usual length."""
+    rest = b""
+    with open(recheck.within(name), "rb") as file:
+        for text in parts_of_text(name, file):
+            *lines, rest = (rest + text).split(b"\n")
+            need(len(rest) <= CHUNK_SIZE, f"{name} has a line of more than {CHUNK_SIZE:,} bytes")
+            for line in lines:
+                is_plain = LINE.fullmatch(line) is not None
+                need(
+                    is_plain, f"{name} has the line {recheck.shown(line.decode(errors='replace'))}"
+                )
+                yield line.decode().split(" ")
+    need(not rest, f"{name} has no line feed at its end, or was cut off")
+
+
+def parts_of_text(name: str, file: BinaryIO) -> Iterator[bytes]:
+    """What a text of that name has, in pieces."""
+    if not name.endswith(".gz"):
+        while data := file.read(CHUNK_SIZE):
+            yield data
+        return
+    try:
+        yield from recheck.pieces(file, MOST_BYTES, "a certificate")
+    except (recheck.Bad, EOFError) as error:
+        raise Wrong(f"{name}: {error}") from None
+
+
+def text_in(name: str) -> str:
+    """A small text of the bundle."""
+    path = recheck.within(name)
+    need(path.stat().st_size <= MOST_TEXT, f"{name} has more than {MOST_TEXT:,} bytes")
+    return recheck.text_of(name, "a text")
+
+
+def stated_periods() -> dict[str, Any]:
+    """What schedule/periods.toml says."""
+    text_in("schedule/periods.toml")  # of no other size
+    return recheck.toml_as_written("schedule/periods.toml")
+
+
+def is_whole(value: Any) -> bool:
+    """Whether a value is a whole number; nan, inf and true are none."""
+    return type(value) is int
 
 
 def read_mine() -> Mine:
     """The model as pit was given it."""
-    blocks, costs, gains = recheck.Blocks(), list[int](), list[int]()
+    blocks, costs, gains = recheck.Blocks(), list[int](), list[list[int]]()
     for number, (each, mining) in enumerate(blocks.amounts):
-        gain = max(0, *(revenue - processing for revenue, processing in each))
-        is_whole = gain % MILLION == 0 and mining % MILLION == 0
+        of_ways = [max(0, revenue - processing) for revenue, processing in each]
+        is_whole = not any(amount % MILLION for amount in (*of_ways, mining))
         need(is_whole, f"block {number} isn't worth whole units of currency")
         costs.append(mining // MILLION)
-        gains.append(gain // MILLION)
+        gains.append([gain // MILLION for gain in of_ways])
     above = [blocks.above(number) for number in range(len(costs))]
     ways = [blocks.way(number, THOUSAND) for number in range(len(costs))]
     return Mine(blocks, costs, gains, ways, [tonnes > 0 for tonnes in blocks.tonnes], above)
@@ -145,10 +195,11 @@ def read_mine() -> Mine:
 
 def read_periods(mine: Mine) -> Periods:
     """What schedule/ says of the periods, each number in its range."""
-    stated = tomllib.loads((HERE / "schedule/periods.toml").read_text())
-    terms = json.loads((HERE / "schedule/terms.json").read_text())
+    stated = stated_periods()
+    terms = recheck.of_json(text_in("schedule/terms.json"), "schedule/terms.json")
     weights, count = stated["weights"], len(stated["weights"])
     resources = 1 + len(mine.blocks.amounts[0].ways)
+    need(all(map(is_whole, weights)), "a weight isn't a whole number")
     need(all(a >= b for a, b in zip(weights, weights[1:])), "weights don't fall")
     need(min(weights) >= 0, "a weight is below 0")
     for name in ("capacities", "multipliers"):
@@ -157,15 +208,16 @@ def read_periods(mine: Mine) -> Periods:
             [len(row) for row in rows] == [count] * resources,
             f"{name} aren't of {resources} resources",
         )
+        need(all(map(is_whole, sum(rows, []))), f"one of the {name} isn't a whole number")
         need(min(min(row) for row in rows) >= 0, f"one of the {name} is below 0")
     uses: Rows = [[] for _ in range(resources)]
-    for number, words in enumerate(words_of(HERE / "schedule/uses.blocks")):
+    for number, words in enumerate(words_of("schedule/uses.blocks")):
         need(int(words[0]) == number, "uses.blocks isn't in the order of its blocks")
         for row, word in zip(uses, words[4 : 4 + resources]):
             row.append(int(word))
     need({len(row) for row in uses} == {len(mine.costs)}, "uses.blocks isn't of this model")
     need(min(min(row) for row in uses) >= 0, "a use is below 0")
-    unit = {int(b): int(u) for b, u in words_of(HERE / "schedule/units.txt")}
+    unit = read_units()
     return Periods(
         weights,
         stated["capacities"],
@@ -174,11 +226,29 @@ def read_periods(mine: Mine) -> Periods:
         unit,
         terms["sink"],
         terms["lag"],
-        None if terms["sent"] is None else {int(block) for block in terms["sent"]},
+        read_sent(resources - 1),
         read_pushbacks(terms["pushbacks"], unit),
         terms["lead"],
         terms["fixed_cost"],
     )
+
+
+def read_units() -> dict[int, int]:
+    """The unit of each block of the pit."""
+    found = dict[int, int]()
+    for words in words_of("schedule/units.txt"):
+        block, unit = map(int, words)
+        need(block not in found, f"units.txt has a second line of block {block}")
+        found[block] = unit
+    return found
+
+
+def read_sent(waste: int) -> dict[int, int] | None:
+    """The way, from 1, of each block that a schedule sends, where it says which; the way of one that
+    goes to waste has the number of the ways. None where it doesn't say."""
+    rows = [words for words in words_of("schedule/schedule.txt") if len(words) != 2]
+    found = {int(words[0]): int(words[2]) + 1 for words in rows if int(words[2]) != waste}
+    return found if rows else None
 
 
 def read_pushbacks(factors: list[int], unit: dict[int, int]) -> dict[int, int]:
@@ -189,9 +259,18 @@ def read_pushbacks(factors: list[int], unit: dict[int, int]) -> dict[int, int]:
 
 
 def pit_of(factor: int) -> set[int]:
-    """The blocks of the pit at a factor, by its certificate."""
-    path = HERE / f"certificates/f{factor:05d}.cert.gz"
-    return {int(words[1]) for words in words_of(path) if words[0] == "PIT"}
+    """The blocks of the pit at a factor, by its certificate: as many as verdicts.json says."""
+    name = f"certificates/f{factor:05d}.cert.gz"
+    found = [int(words[1]) for words in words_of(name) if words[0] == "PIT"]
+    said = [each["count"] for each in recheck.verdicts_of() if each["file"] == name]
+    need(
+        said == [len(found)] and len(found) == len(set(found)),
+        f"{name} has {len(found):,} PIT lines, and verdicts.json says {said}",
+    )
+    return set(found)
+
+
+# --- The sink rate: the block that each block waits for ---
 
 
 def sinking(mine: Mine, periods: Periods) -> Rows:
@@ -210,27 +289,46 @@ def sinking(mine: Mine, periods: Periods) -> Rows:
     return found
 
 
-def check_waits(periods: Periods, lagged: Rows) -> None:
-    """What schedule/ tells pit of the sink rate: for how many periods blocks wait, and in a column
-    behind the uses for which block each does, its own number where for none."""
-    stated, uses = tomllib.loads((HERE / "schedule/periods.toml").read_text()), len(periods.uses)
+# --- The texts that pit was given say the same of uses and of the sink rate ---
+
+
+def check_texts(periods: Periods, lagged: Rows) -> None:
+    """What schedule/ tells pit of uses and of the sink rate: in which columns stands what a block uses,
+    and by ways where a schedule chooses them; and after them for which block each waits, its own
+    number where for none, and for how many periods."""
+    stated, uses = stated_periods(), len(periods.uses)
     columns = [] if periods.sink is None else [uses]
     need(stated.get("waits", []) == columns, "periods.toml hasn't the column of the sink rate")
     lag = periods.lag if columns else None
     need(stated.get("lag") == lag, "periods.toml hasn't the lag of the sink rate")
-    for block, words in enumerate(words_of(HERE / "schedule/uses.blocks")):
+    zeros = uses + len(columns)  # a column that has nothing: other ways use none of a resource
+    named: list[Any] = list(range(uses))
+    if chooses(periods):
+        named[1:] = [[r if r == way else zeros for way in range(1, uses)] for r in range(1, uses)]
+    need(stated["resources"] == named, "periods.toml has other columns of uses")
+    rest = [0] if chooses(periods) and uses > 2 else []
+    for block, words in enumerate(words_of("schedule/uses.blocks")):
         waits = list(map(int, words[4 + uses :]))
-        ours = (lagged[block] or [block]) if columns else []
+        ours = ((lagged[block] or [block]) if columns else []) + rest
         need(waits == ours, f"block {block} waits for {waits}, and by the sink rate for {ours}")
 
 
-def read_schedule(never: int) -> dict[int, int]:
-    """The period of each block that is dug, of so many."""
-    when = dict[int, int]()
-    for words in words_of(HERE / "schedule/schedule.txt"):
-        block, period = map(int, words)
+# --- Feasibility: slopes, sink rate, pushbacks and capacities hold; net present value ---
+
+
+def read_schedule(mine: Mine, never: int) -> dict[int, int]:
+    """The period of each block that is dug, of so many. Where it has a way too, this is one by which
+    the block gains, or waste."""
+    when, waste = dict[int, int](), len(mine.blocks.amounts[0].ways)
+    counts = set[int]()
+    for words in words_of("schedule/schedule.txt"):
+        block, period, *ways = map(int, words)
         need(block not in when and 0 <= period < never, f"schedule.txt, block {block}")
+        gaining = [way for way in range(waste) if mine.gains[block][way]]
+        need(all(way in (waste, *gaining) for way in ways), f"block {block}: its way")
         when[block] = period
+        counts.add(len(ways))
+    need(counts <= {0} or counts == {1}, "schedule.txt has a way for some blocks alone")
     return when
 
 
@@ -252,14 +350,13 @@ def check_schedule(mine: Mine, periods: Periods, lagged: Rows, when: dict[int, i
                 f"block {block} breaks the sink rate",
             )
     check_pushbacks(mine, periods, when)
-    gaining = {block for block in when if mine.gains[block]}
     need(
-        periods.sent is None or periods.sent <= gaining,
-        "a block is sent that isn't dug, or gains nothing by the mill",
+        periods.sent is None
+        or all(block in when and mine.gain(block, way) for block, way in periods.sent.items()),
+        "a block is sent that isn't dug, or gains nothing by its way",
     )
-    treated = {block for block in when if periods.takes_feed(mine, block)}
     for resource, (uses, rooms) in enumerate(zip(periods.uses, periods.capacities)):
-        of_way = {block for block in treated if mine.ways[block] == resource}
+        of_way = {block for block in when if periods.goes(mine, block) == resource}
         used, taking = [0] * never, of_way if resource else set(when)
         for block in taking:
             used[when[block]] += uses[block]
@@ -273,7 +370,7 @@ def npv_of(mine: Mine, periods: Periods, when: dict[int, int]) -> int:
     millionths."""
     total = 0
     for block, period in when.items():
-        gain = mine.gains[block] * periods.takes_feed(mine, block)
+        gain = mine.gain(block, periods.goes(mine, block))
         total += periods.weights[period] * (gain - mine.costs[block])
     open_in = {period for block, period in when.items() if periods.uses[0][block]}
     return total - periods.fixed_cost * sum(periods.weights[period] for period in open_in)
@@ -288,8 +385,8 @@ def check_pushbacks(mine: Mine, periods: Periods, when: dict[int, int]) -> None:
 
 
 def ahead_of(mine: Mine, periods: Periods, when: dict[int, int]) -> dict[int, int]:
-    """Of each block that is dug the last period of what lies ahead of it by pushbacks; -1 where
-    nothing does."""
+    """Of each block of the pit the last period of what lies ahead of it by pushbacks; -1 where nothing
+    does."""
     latest, never = dict[tuple[int, int], int](), len(periods.weights)
     benches = [mine.blocks.places[block][2] for block in periods.unit]
     low, high = min(benches), max(benches)
@@ -304,10 +401,13 @@ def ahead_of(mine: Mine, periods: Periods, when: dict[int, int]) -> dict[int, in
                 latest.get((pushback - 1, bench), -1),
             )
     found = dict[int, int]()
-    for block in when:
+    for block in periods.unit:
         bench = max(mine.blocks.places[block][2] - periods.lead, low)
         found[block] = latest.get((periods.pushback[block] - 1, bench), -1)
     return found
+
+
+# --- Which limits bind: the sink rate, and rates that are full ---
 
 
 def kept_by_sink(
@@ -331,6 +431,59 @@ def kept_by_sink(
     return found
 
 
+def could_be_dug(
+    mine: Mine, periods: Periods, lagged: Rows, when: dict[int, int]
+) -> dict[int, range]:
+    """The periods in which each unit could be dug, and isn't: from where all that it rests on is dug to
+    the one before its own."""
+    ahead, never = ahead_of(mine, periods, when), len(periods.weights)
+    first, own = dict[int, int](), dict[int, int]()
+    for block, unit in periods.unit.items():
+        over = [when.get(b, never) for b in mine.above[block] if periods.unit.get(b) != unit]
+        over += [when.get(b, never) + periods.lag for b in lagged[block]]
+        first[unit] = max(first.get(unit, 0), ahead[block], *over)
+        own[unit] = when.get(block, never)
+    return {unit: range(first[unit], own[unit]) for unit in own}
+
+
+def full_rates(
+    mine: Mine, periods: Periods, lagged: Rows, when: dict[int, int], asked: Asked
+) -> set[tuple[int, int]]:
+    """Of which rates and periods nothing more that could be dug, or be sent another way, fits into what
+    is left, where there is something: whole units of rock or feed, or blocks that a schedule sends.
+    """
+    could, never = could_be_dug(mine, periods, lagged, when), len(periods.weights)
+    least, used = dict[tuple[int, int], int](), dict[tuple[int, int], int]()
+
+    def may_add(resource: int, period: int, amount: int) -> None:
+        place = resource, period
+        if amount:
+            least[place] = min(least.get(place, amount), amount)
+
+    for resource, uses in enumerate(least_uses(periods, 1 + max(periods.unit.values()))):
+        for unit, amount in enumerate(uses):
+            for period in could[unit]:
+                may_add(resource, period, amount)
+    for block, unit in periods.unit.items():
+        at, way = when.get(block, never), periods.goes(mine, block)
+        for resource, uses in enumerate(periods.uses):
+            if at < never and resource in (0, way):
+                used[resource, at] = used.get((resource, at), 0) + uses[block]
+            if chooses(periods) and resource and mine.gain(block, resource):
+                here = [at] if at < never and resource != way else []
+                for period in [*could[unit], *here]:
+                    may_add(resource, period, uses[block])
+    return {
+        (resource, period)
+        for (resource, period), amount in least.items()
+        if asked.rates[resource]
+        and asked.room(resource, period) - used.get((resource, period), 0) < amount
+    }
+
+
+# --- The mine of units: precedence, gates of pushbacks, and the clock of panels ---
+
+
 def of_units(rows: Rows, unit: dict[int, int], is_apart: bool) -> list[set[int]]:
     """What each unit rests on, by its blocks; what lies outside the pit is wrong."""
     found: list[set[int]] = [set() for _ in range(max(unit.values()) + 1)]
@@ -343,7 +496,7 @@ def of_units(rows: Rows, unit: dict[int, int], is_apart: bool) -> list[set[int]]
 
 
 def add_gates(mine: Mine, periods: Periods, above: list[set[int]]) -> list[int]:
-    """Adds the gates of pushbacks behind the units: one for each pushback but the last and each
+    """Adds the gates of pushbacks after the units: one for each pushback but the last and each
     bench, from the top down, which rests on all of these pushbacks there and above. Gives the units
     and gates in an order in which what one rests on comes before it."""
     benches = {block: mine.blocks.places[block][2] for block in periods.unit}
@@ -377,7 +530,7 @@ def counts_cones(periods: Periods) -> bool:
 
 def cone_periods(periods: Periods, order: list[int], above: list[set[int]]) -> list[int]:
     """The first period by which each unit may be dug whole: all that it rests on, directly or not, is
-    dug by then too, and needs room in the capacities so far. That behind all where there is none.
+    dug by then too, and needs room in the capacities so far. The one after all where there is none.
     """
     found = [0] * len(above)
     cones = [0] * len(above)  # a bit for each unit that it holds
@@ -406,43 +559,61 @@ def least_uses(periods: Periods, units: int) -> Rows:
     return found
 
 
-def first_periods(
-    periods: Periods,
-    order: list[int],
-    pairs: tuple[list[set[int]], list[set[int]]],
-    by_room: list[int],
-) -> list[int]:
-    """The first period that the sink rate leaves each unit, and its cone where cones count."""
-    (above, sunk), found = pairs, list(by_room)
-    for unit in order:
-        least = [found[unit], *(found[other] for other in above[unit])]
-        least += [found[other] + periods.lag for other in sunk[unit]]
-        found[unit] = min(max(least, default=0), len(periods.weights))
+def add_ties(mine: Mine, periods: Periods, above: list[set[int]]) -> dict[int, int]:
+    """Adds a node for each block that may be sent beyond the first of its unit: it rests on its unit
+    as that does on it. Gives the node of each that may be sent."""
+    found, units = dict[int, int](), set[int]()
+    for block, unit in sorted(periods.unit.items()):
+        if not chooses(periods) or not any(mine.gains[block]):
+            continue
+        found[block] = len(above) if unit in units else unit
+        if unit in units:
+            above[unit].add(len(above))
+            above.append({unit})
+        units.add(unit)
     return found
 
 
+def add_clock(
+    firsts: list[int], count: int, lag: int, pairs: tuple[list[set[int]], list[set[int]]]
+) -> None:
+    """Adds a clock, where cones keep some units back: its tick k waits for the one before, so that it
+    comes after k lags, and a unit rests on the last tick before its first period. One that has no
+    room in so many periods rests on a tick that comes after all of them."""
+    above, sunk = pairs
+    ticks = [first // lag if first < count else -(-count // lag) for first in firsts]
+    if not any(ticks):
+        return
+    begin = len(above)
+    for unit, tick in enumerate(ticks):
+        if tick:
+            above[unit].add(begin + tick)
+    above.extend(set() for _ in range(max(ticks) + 1))
+    sunk.extend({begin + tick - 1} if tick else set() for tick in range(max(ticks) + 1))
+
+
+# --- The bound on every schedule: its flow is balanced, and proves it ---
+
+
 def check_bound(mine: Mine, periods: Periods, lagged: Rows) -> Decimal:
-    """What no schedule of the pit's blocks is worth more than, by the flow of the certificate."""
+    """What no schedule of the pit's blocks is worth more than, by the flow of the certificate. Its
+    nodes are t * n + b for units, ties and ticks b of n by the end of period t; amounts are in 10^-15.
+    """
     above = of_units(mine.above, periods.unit, True)
     sunk = of_units(lagged, periods.unit, False)
     order, count = add_gates(mine, periods, above), len(periods.weights)
+    firsts = cone_periods(periods, order, above) if counts_cones(periods) else [0] * len(above)
+    lag = periods.lag if any(sunk) else 1
+    node_of = add_ties(mine, periods, above)
     sunk += [set() for _ in above[len(sunk) :]]
-    by_room = cone_periods(periods, order, above) if counts_cones(periods) else [0] * len(above)
-    is_read = not any(by_room) and all(len(others) <= MOST_WAITS for others in sunk)
-    is_plain = is_read and not any(mine.gains[b] for b in periods.unit if chooses(periods))
-    firsts = by_room if is_plain else first_periods(periods, order, (above, sunk), by_room)
-    leaves = left_by_units(mine, periods, len(above), THOUSAND if not is_plain else 1)
-    node = [(unit, t) for unit, first in enumerate(firsts) for t in range(first, count)]
-    grain, held = 1, 0
-    if is_plain:  # pit bound has judged it: node t * n + b of n units, and amounts in 10^-15
-        node.sort(key=lambda each: each[1])
-        grain, held = MILLION, HELD
+    add_clock(firsts, count, lag, (above, sunk))
+    leaves = left_by_nodes(mine, periods, node_of, len(above))
+    node = [(b, t) for t in range(count) for b in range(len(above))]
     worths = [
-        (leaves[unit][t] - leaves[unit][t + 1]) * grain
-        - (held if sunk[unit] and t < periods.lag else 0)
-        for unit, t in node
+        (leaves[b][t] - leaves[b][t + 1]) * MILLION - (HELD if sunk[b] and t < lag else 0)
+        for b, t in node
     ]
-    source = flow_of(node, worths, above, sunk, periods.lag)
+    source = flow_of(node, worths, above, sunk, lag)
     closed = sum(max(worth, 0) for worth in worths) - source
     rooms = 0  # a period pays for its capacities and has its fixed cost, or digs nothing
     for t, weight in enumerate(periods.weights):
@@ -450,7 +621,7 @@ def check_bound(mine: Mine, periods: Periods, lagged: Rows) -> Decimal:
             prices[t] * row[t] for prices, row in zip(periods.multipliers, periods.capacities)
         )
         rooms += max(paid - weight * periods.fixed_cost * THOUSAND, 0)
-    return Decimal(closed + rooms * grain) / (MILLION * THOUSAND * grain)
+    return Decimal(closed + rooms * MILLION) / (MILLION * THOUSAND * MILLION)
 
 
 def chooses(periods: Periods) -> bool:
@@ -458,35 +629,42 @@ def chooses(periods: Periods) -> bool:
     return periods.sent is not None
 
 
-def left_by_units(mine: Mine, periods: Periods, units: int, grain: int) -> Rows:
-    """What each unit leaves in each period, and nothing behind the last: what it is worth less what
-    it uses at the multipliers, in billionths, each product rounded down to so many; by the better of
-    mill and waste for each block where a schedule may choose."""
-    values, more = [0] * units, [[0] * len(periods.weights) for _ in range(units)]
-    uses = [[0] * units for _ in periods.uses]
-    rock, feed = periods.uses[:2]
+def of_ways(periods: Periods) -> str:
+    """Of which schedules the bound is: with a fixed cut-off of those by one choice of ways alone."""
+    by_year = f'with each block by whichever way (cutoff = "{CUTOFFS[1]}")'
+    fixed = f'with each block where it is worth most at the full price (cutoff = "{CUTOFFS[0]}")'
+    return by_year if chooses(periods) else fixed
+
+
+def left_by_nodes(mine: Mine, periods: Periods, node_of: dict[int, int], nodes: int) -> Rows:
+    """What each unit, tie and tick leaves in each period, and nothing after the last: what it is worth
+    less what it uses at the multipliers, in billionths; by the best of all ways and waste for each
+    block where a schedule may choose."""
+    values, more = [0] * nodes, [[0] * len(periods.weights) for _ in range(nodes)]
+    uses = [[0] * nodes for _ in periods.uses]
     for block, unit in periods.unit.items():
-        gain, way = mine.gains[block], mine.ways[block]
+        way = mine.ways[block]
         values[unit] -= mine.costs[block]
-        uses[0][unit] += rock[block]
-        if periods.sent is None:
-            values[unit] += gain
-            if way:
-                uses[way][unit] += periods.uses[way][block]
-        elif gain:
-            for t, (weight, price) in enumerate(zip(periods.weights, periods.multipliers[1])):
-                paid = feed[block] * price // grain * grain
-                more[unit][t] += max(weight * gain * THOUSAND - paid, 0)
+        uses[0][unit] += periods.uses[0][block]
+        if not way:
+            continue
+        if not chooses(periods):
+            values[unit] += mine.gain(block, way)
+            uses[way][unit] += periods.uses[way][block]
+            continue
+        each = list(zip(mine.gains[block], [row[block] for row in periods.uses[1:]]))
+        for t, weight in enumerate(periods.weights):
+            prices = [row[t] for row in periods.multipliers[1:]]
+            of_ways = [weight * g * THOUSAND - f * p for (g, f), p in zip(each, prices)]
+            more[node_of[block]][t] += max(0, *of_ways)
     both = list(zip(uses, periods.multipliers))
     return [
         [
-            weight * values[unit] * THOUSAND
-            + more[unit][t]
-            - sum(row[unit] * each[t] // grain * grain for row, each in both)
+            weight * values[b] * THOUSAND + more[b][t] - sum(row[b] * each[t] for row, each in both)
             for t, weight in enumerate(periods.weights)
         ]
         + [0]
-        for unit in range(units)
+        for b in range(nodes)
     ]
 
 
@@ -499,19 +677,22 @@ def flow_of(
 ) -> int:
     """What the flow takes from the source, once it is one: within what blocks have, along pairs,
     and as much out of each as comes in."""
-    over, source, is_whole = [0] * len(node), 0, False
-    for words in words_of(HERE / "schedule/bound.cert.gz"):
+    over, ends_of, source, is_whole = [0] * len(node), [0] * len(node), 0, False
+    for words in words_of("schedule/bound.cert.gz"):
         is_whole = words == ["END"]
         if words[0] not in ("SOURCE", "REST", "SINK"):
             continue
         *ends, amount, second = map(int, words[1:])
         need(amount > 0 and second == 0, f"the certificate's line {' '.join(words)}")
+        need(all(0 <= end < len(node) for end in ends), f"no such node: {' '.join(words)}")
         if words[0] == "SOURCE":
-            need(amount <= worths[ends[0]], f"more flows into {ends[0]} than it is worth")
+            ends_of[ends[0]] += amount  # a node may have several lines
+            need(ends_of[ends[0]] <= worths[ends[0]], f"more flows into {ends[0]} than it is worth")
             over[ends[0]] += amount
             source += amount
         elif words[0] == "SINK":
-            need(amount <= -worths[ends[0]], f"more flows out of {ends[0]} than it costs")
+            ends_of[ends[0]] += amount
+            need(ends_of[ends[0]] <= -worths[ends[0]], f"more flows out of {ends[0]} than it costs")
             over[ends[0]] -= amount
         else:
             (unit, t), (other, s) = node[ends[0]], node[ends[1]]
@@ -531,12 +712,18 @@ def flow_of(
     return source
 
 
+# --- The blocks that are scheduled are those of the pit at the full price ---
+
+
 def check_pit(periods: Periods) -> None:
     """The blocks that are scheduled are those of the pit at the full price."""
     need(
         pit_of(THOUSAND) == set(periods.unit),
         "the blocks of the schedule aren't the pit at the full price",
     )
+
+
+# --- Terms: weights, capacities, panels and fixed cost, worked out from study.toml ---
 
 
 class Asked(NamedTuple):
@@ -559,11 +746,12 @@ class Asked(NamedTuple):
         processes = plan["economics"].get("processes")
         if processes is not None:
             need("mill_rate" not in both, "there are processes, and a mill_rate beside them")
-        own = (
-            [both.get("mill_rate", [])]
-            if processes is None
-            else [each.get("rate", []) for each in recheck.economics_of()["processes"]]
-        )
+        own = [both.get("mill_rate", [])]
+        told = dict(both.get("process_rates", {}))
+        if processes is not None:
+            named = recheck.economics_of()["processes"]
+            own = [told.pop(each["name"], each.get("rate", [])) for each in named]
+        need(not told, f"process_rates names {', '.join(told)}, and no process is called so")
         found = [both.get("mining_rate", []), *own]
         rates = [rate if isinstance(rate, list) else [rate] for rate in found]
         return cls(
@@ -612,8 +800,12 @@ def check_terms(mine: Mine, periods: Periods, asked: Asked) -> None:
     """What periods weigh and have, the sink rate and the panels are those of study.toml."""
     count = len(periods.weights)
     totals = [sum(row[block] for block in periods.unit) for row in periods.uses]
+    by_best = [
+        sum(row[b] for b in periods.unit if not resource or mine.ways[b] == resource)
+        for resource, row in enumerate(periods.uses)
+    ]
     years = {
-        asked.years([total * share for total in totals]) for share in (1 - 1e-9, 1.0, 1 + 1e-9)
+        asked.years([total * share for total in by_best]) for share in (1 - 1e-9, 1.0, 1 + 1e-9)
     }
     need(count in {year * asked.per_year for year in years}, f"{count} periods aren't those asked")
     need(
@@ -667,16 +859,20 @@ def resources_of(ways: list[recheck.Treatment]) -> list[str]:
     return ["mining", *(way.name for way in ways)]
 
 
+# --- What blocks use, worked out from the planner's table ---
+
+
 def check_uses(mine: Mine, periods: Periods, worked: list[recheck.Worked | None]) -> None:
     """What the pit's blocks use is the nearest to what their rows of the planner's table say: a
-    block takes the feed of the process that it goes to, and of no other."""
+    block takes the feed of the process by which it is worth most, and of no other, or where a schedule
+    chooses of each by which it gains."""
     ways = recheck.treatments_of(recheck.economics_of())
     for block in periods.unit:
-        row, goes = worked[block], mine.ways[block]
-        fed = [
-            row.ore * way.feed if row and goes == number else 0.0
-            for number, way in enumerate(ways, 1)
+        row, best, gains = worked[block], mine.ways[block], mine.gains[block]
+        takes = [
+            gains[way] > 0 if chooses(periods) else best == way + 1 for way in range(len(ways))
         ]
+        fed = [row.ore * way.feed if row and does else 0.0 for way, does in zip(ways, takes)]
         rock = row.tonnes if row else mine.blocks.tonnes[block]
         for name, kept, ours in zip(
             resources_of(ways), (uses[block] for uses in periods.uses), [rock, *fed]
@@ -686,6 +882,9 @@ def check_uses(mine: Mine, periods: Periods, worked: list[recheck.Worked | None]
                 abs(kept - ours * THOUSAND) <= off,
                 f"block {block} uses {kept} of {name}, and by the table {ours * THOUSAND:.3f}",
             )
+
+
+# --- Tables of results: periods and benches, added up again ---
 
 
 class Sums(NamedTuple):
@@ -716,12 +915,15 @@ class Sums(NamedTuple):
 
 
 def as_dug(mine: Mine, periods: Periods) -> recheck.Blocks:
-    """The blocks, of which those that go to waste bring nothing."""
+    """The blocks, each of which brings nothing by other ways than the one that it goes."""
     found = copy.copy(mine.blocks)
     found.amounts = [
-        amounts
-        if periods.takes_feed(mine, block)
-        else amounts._replace(ways=((0, 0),) * len(amounts.ways))
+        amounts._replace(
+            ways=tuple(
+                each if number == periods.goes(mine, block) else (0, 0)
+                for number, each in enumerate(amounts.ways, 1)
+            )
+        )
         for block, amounts in enumerate(mine.blocks.amounts)
     ]
     return found
@@ -729,7 +931,7 @@ def as_dug(mine: Mine, periods: Periods) -> recheck.Blocks:
 
 def is_line(
     line: recheck.Line,
-    found: recheck.Sum,
+    total: recheck.Sum,
     metals: list[str],
     ways: list[recheck.Treatment],
     fixed: int = 0,
@@ -737,16 +939,16 @@ def is_line(
     """Whether a line of a table has these blocks, its cash flow less a fixed cost."""
     worth = str(Decimal(line.word("cash_flow")) + fixed)
     paid = line._replace(cells={**line.cells, "worth": worth})
-    off = 6e-4 * (1 + found.blocks)
+    off = 6e-4 * (1 + total.blocks)
     return (
-        found.is_line(paid, False, ways, metals)
-        and recheck.is_close(line.number("feed_t"), sum(found.fed(ways)), 2 * off)
+        total.is_line(paid, False, ways, metals)
+        and recheck.is_close(line.number("feed_t"), sum(total.fed(ways)), 2 * off)
         and (
             line.word("strip") == ""
-            if not found.ore
+            if not total.ore
             else math.isclose(
                 line.number("strip"),
-                (found.rock - found.ore) / found.ore,
+                (total.rock - total.ore) / total.ore,
                 rel_tol=1e-6,
                 abs_tol=1e-9,  # 0 where all is ore, of which each process has a part
             )
@@ -766,7 +968,9 @@ def check_tables(
     metals = [metal["name"] for metal in economics["metals"]]
     ways = recheck.treatments_of(economics)
     sums, npv = Sums.of(mine, periods, when, worked, facts["grid"]), 0.0
-    kept = kept_by_sink(mine, periods, sinking(mine, periods), when)
+    lagged = sinking(mine, periods)
+    kept = kept_by_sink(mine, periods, lagged, when)
+    full = full_rates(mine, periods, lagged, when, asked)
     lines = recheck.read_table("schedule.csv")
     need(len(lines) == max(when.values()) + 1, "tables/schedule.csv hasn't a line for each period")
     for t, line in enumerate(lines):
@@ -782,7 +986,8 @@ def check_tables(
         is_sunk = periods.sink is not None and check_sink(
             line, what, kept.get(t, []), facts["grid"]
         )
-        used = list(zip(resources_of(ways), [found.rock, *found.fed(ways)]))
+        names, tonnes = resources_of(ways), [found.rock, *found.fed(ways)]
+        used = [(name, tonnes[r], (r, t) in full) for r, name in enumerate(names)]
         check_binding(line, what, asked, t, used, is_sunk)
         dug = [bench for period, bench, _ in sums.benches if period == t]
         toe = min(dug) - facts["grid"]["size"][2] / 2 if dug else None
@@ -790,7 +995,9 @@ def check_tables(
     benches = dict[tuple[int, float, int], recheck.Line]()
     for line in recheck.read_table("schedule_benches.csv"):
         pushback = line.whole("pushback") if asked.terms.get("pushbacks") else 1
-        benches[line.whole("period") - 1, round(line.number("bench"), 3), pushback] = line
+        place = line.whole("period") - 1, round(line.number("bench"), 3), pushback
+        need(place not in benches, f"{line.file}, line {line.at}, is a second one of its bench")
+        benches[place] = line
     need(set(benches) == set(sums.benches), "tables/schedule_benches.csv has other benches")
     for place, line in benches.items():
         what = f"tables/schedule_benches.csv, line {line.at}, isn't what its blocks come to"
@@ -840,13 +1047,14 @@ def check_binding(
     what: str,
     asked: Asked,
     period: int,
-    used: list[tuple[str, float]],
+    used: list[tuple[str, float, bool]],
     is_sunk: bool,
 ) -> None:
     """The shares of the rates that a line says a period uses, and which rates it says bind, the sink
-    rate among them."""
+    rate among them: those of which FULL is used, or that are full as far as whole units fill them.
+    """
     binds = []
-    for resource, (name, tonnes) in enumerate(used):
+    for resource, (name, tonnes, is_full) in enumerate(used):
         cell = f"process_{name}_used" if resource and len(used) > 2 else f"{name}_used"
         room = asked.room(resource, period) if asked.rates[resource] else 0
         if not room:
@@ -854,9 +1062,12 @@ def check_binding(
             continue
         share = tonnes * THOUSAND / room
         need(recheck.is_close(line.number(cell), share, 1e-6 * (1 + share)), f"{what}: {cell}")
-        binds += [name] if line.number(cell) >= FULL else []
+        binds += [name] if is_full or line.number(cell) >= FULL else []
     binds += ["sink"] if is_sunk else []
-    need(line.word("binds") == " ".join(binds), f"{what}: binds")
+    need(line.word("binds") == "; ".join(binds), f"{what}: binds")
+
+
+# --- All checks, in their order ---
 
 
 def main() -> int:
@@ -864,11 +1075,12 @@ def main() -> int:
     try:
         mine = read_mine()
         periods = read_periods(mine)
-        lagged, when = sinking(mine, periods), read_schedule(len(periods.weights))
-        check_waits(periods, lagged)
+        lagged, when = sinking(mine, periods), read_schedule(mine, len(periods.weights))
+        check_texts(periods, lagged)
         check_pit(periods)
         npv = check_schedule(mine, periods, lagged, when)
         bound = check_bound(mine, periods, lagged)
+        need(npv <= bound, f"the schedule is worth {npv:,f}, and its bound is {bound:,f}")
         asked = Asked.read()
         check_terms(mine, periods, asked)
         found = recheck.check_table(Quiet(), mine.blocks, recheck.facts_of())
@@ -876,13 +1088,23 @@ def main() -> int:
         check_uses(mine, periods, worked)
         check_tables(mine, periods, asked, when, worked)
     except (
-        *(Wrong, recheck.Bad, OSError, EOFError),
-        *(ArithmeticError, ValueError, KeyError, IndexError, TypeError),
+        *(Wrong, recheck.Bad, OSError, EOFError, zlib.error, AttributeError),
+        *(
+            ArithmeticError,
+            ValueError,
+            KeyError,
+            IndexError,
+            TypeError,
+            MemoryError,
+            RecursionError,
+        ),
     ) as error:
-        print(f"WRONG {error}")
+        print(f"WRONG {error or type(error).__name__}")
         return 1
     print(f"ok    the schedule keeps slopes, sink rate and capacities, and is worth {npv:,f}")
-    print(f"ok    no schedule of the pit's blocks is worth more than {bound:,f}")
+    print(
+        f"ok    no schedule of the pit's blocks by these terms, {of_ways(periods)}, is worth more than {bound:,f}"
+    )
     print(
         "ok    what periods weigh and have is what study.toml says, and what blocks use and bring"
     )

@@ -18,8 +18,10 @@ if TYPE_CHECKING:
 
 _SCRIPT = "recheck_schedule.py"
 OF_SCHEDULE = """
-recheck_schedule.py  checks the plan by years in schedule/ again, by Python's standard library alone: python3 recheck_schedule.py
-schedule/            when each block is dug, what periods weigh and have, what blocks use, and the flow that proves the bound
+recheck_schedule.py  checks the plan by years in schedule/ again, by Python's standard library\
+ alone: python3 recheck_schedule.py
+schedule/            when each block is dug, what periods weigh and have, what blocks use, and the\
+ flow that proves the bound
 tables/              schedule.csv by year and schedule_benches.csv by year and bench, which that script adds up again
 """
 
@@ -41,8 +43,8 @@ def write_schedule(
     study = shells.study
     if not (study.folder / "runs" / "schedule").is_dir():
         return False
-    from ..schedule.judged import write_texts  # these need Numba
-    from ..schedule.kept import Kept
+    from ..schedule.pit_schedule import write_texts  # these need Numba
+    from ..schedule.kept_search import Kept
     from ..schedule.plan import Schedule
     from ..schedule.tables import Tables
 
@@ -58,7 +60,8 @@ def write_schedule(
     write_table(tables.benches(), work / "tables" / "schedule_benches.csv")
     folder = work / "schedule"
     folder.mkdir()
-    write_texts(folder, study, made, found.period, np.array(bound.multipliers, np.int64))
+    multipliers = np.array(bound.multipliers, np.int64)
+    write_texts(folder, study, made, found.period, found.goes, multipliers)
     (folder / "units.txt").write_text(
         "".join(f"{b} {u}\n" for b, u in zip(made.blocks.tolist(), made.unit.tolist()))
     )
@@ -68,12 +71,9 @@ def write_schedule(
         "pushbacks": made.terms.pushbacks,
         "lead": made.terms.lead,
         "fixed_cost": made.terms.fixed_cost,
-        "sent": np.flatnonzero(found.sent & (found.period >= 0)).tolist()
-        if made.terms.is_by_year
-        else None,
     }
     (folder / "terms.json").write_text(json.dumps(terms))
-    shutil.copyfile(kept.folder / "bound" / "bound.cert.gz", folder / "bound.cert.gz")
+    shutil.copyfile(kept.certificate, folder / kept.certificate.name)
     script = resources.files(__package__).joinpath(_SCRIPT).read_text("utf-8")
     (work / _SCRIPT).write_text(script, "utf-8")
     return True

@@ -1,9 +1,10 @@
-"""What all other packages use: errors, amounts and units, files and their digests, the machine."""
+"""What all other packages use: errors with their remedies, events, amounts and units, whole files
+and their digests, the machine, ctrl-C."""
 from __future__ import annotations
 
 from typing import TYPE_CHECKING
 
-from .door import door
+from .public_names import door
 
 if TYPE_CHECKING:
     from .errors import (

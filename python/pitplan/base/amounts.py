@@ -6,18 +6,17 @@ from dataclasses import dataclass, field, replace
 from decimal import Decimal
 
 import numpy as np
-import numpy.typing as npt
 
-from .arrays import Bools, Floats, Ints
+from .arrays import Bools, Floats, Ints, Texts
 from .errors import PlanError, Remedy
 
 
 THOUSAND = 1000  # a factor is in thousandths
-MOST = Decimal(10) ** 12  # the most that `pit` reads for a block
+MOST_WORTH = Decimal(10) ** 12  # the most that `pit` reads for a block
 LARGEST_FACTOR = 10_000  # that `pit` takes, in thousandths
 # blocks whose worths are added up at a time: what stays near the processor takes a third of the
 # time
-_PIECE = 1 << 15
+_BLOCKS_AT_A_TIME = 1 << 15
 _HALF = 31  # bits of a number that are added up apart from those above them
 
 
@@ -34,10 +33,10 @@ def rounding_of(rounding: float | str | Decimal) -> Decimal:
         found = Decimal(str(rounding))
     except ArithmeticError:
         raise PlanError(f"rounding = {rounding!r} is no number") from None
-    if not found.is_finite() or not 0 < found <= MOST or found != round(found, 6):
+    if not found.is_finite() or not 0 < found <= MOST_WORTH or found != round(found, 6):
         raise PlanError(
             (
-                f"rounding = {rounding} has to be above 0 and at most {MOST:,}, with at most six"
+                f"rounding = {rounding} has to be above 0 and at most {MOST_WORTH:,}, with at most six"
                 " decimals"
             ),
             try_this=Remedy(("economics", "rounding"), 1),
@@ -77,7 +76,7 @@ class Way:
             metal={name: amounts[:count] for name, amounts in self.metal.items()},
         )
 
-    def gain(self, part: slice, factor: int) -> Ints:
+    def gain(self, part: slice | Ints, factor: int) -> Ints:
         """What treating each block brings at a factor, in thousandths of the rounding."""
         found: Ints = self.revenue[part] * factor
         found -= self.processing[part] * THOUSAND
@@ -123,32 +122,6 @@ class Priced:
 
     def __len__(self) -> int:
         return len(self.mining)
-
-    @property
-    def only(self) -> Way:
-        """The one way of a study that has no more. Raises ValueError where it has."""
-        (found,) = self.ways
-        return found
-
-    @property
-    def revenue(self) -> Ints:
-        """Of the only way."""
-        return self.only.revenue
-
-    @property
-    def processing(self) -> Ints:
-        """Likewise."""
-        return self.only.processing
-
-    @property
-    def metal(self) -> dict[str, Floats]:
-        """Likewise."""
-        return self.only.metal
-
-    @property
-    def feed(self) -> float:
-        """Likewise."""
-        return self.only.feed
 
     @property
     def process_names(self) -> list[str]:
@@ -244,10 +217,10 @@ class Priced:
         found = {each.name: way == number for number, each in enumerate(self.ways, 1)}
         return found | {"waste": way == 0}
 
-    def destinations(self, factor: int) -> npt.NDArray[np.object_]:
+    def destinations(self, factor: int) -> Texts:
         """Where each block goes at a factor, in words: the name of its process, or "waste"."""
         names = np.array(["waste", *(way.name for way in self.ways)], object)
-        found: npt.NDArray[np.object_] = names[self.way_of(factor)]
+        found: Texts = names[self.way_of(factor)]
         return found
 
     def worth(self, factor: int) -> Floats:
@@ -287,6 +260,30 @@ class Priced:
         whole = tonnes if self.part is None else tonnes * self.part
         return [whole * here * way.feed for way, here in self.by_way(factor)]
 
+    def feeds_gained(self, tonnes: Floats, factor: int) -> list[Floats]:
+        """The tonnes that each process would get of each block that gains by it at a factor, whether
+        or not another process is better; `tonnes` are those of the blocks."""
+        whole = tonnes if self.part is None else tonnes * self.part
+        return [whole * (way.gain(slice(None), factor) > 0) * way.feed for way in self.ways]
+
+    def sent_by(self, goes: Ints) -> Priced:
+        """The same where blocks go given ways, each by its number from 1, and to waste by 0: any other
+        brings nothing.
+
+        Parameters
+        ----------
+        goes : int array of shape (blocks,)
+        """
+        ways = tuple(
+            replace(
+                way,
+                revenue=np.where(goes == number, way.revenue, 0),
+                processing=np.where(goes == number, way.processing, 0),
+            )
+            for number, way in enumerate(self.ways, 1)
+        )
+        return replace(self, ways=ways)
+
     def metal_of(self, factor: int) -> dict[str, Floats]:
         """The metal that is recovered of each block at a factor, once it is dug."""
         found: dict[str, Floats] = {}
@@ -311,7 +308,7 @@ class Priced:
             In thousandths.
         """
         self.check_room(factor)
-        parts = (slice(at, at + _PIECE) for at in range(0, len(self), _PIECE))
+        parts = (slice(at, at + _BLOCKS_AT_A_TIME) for at in range(0, len(self), _BLOCKS_AT_A_TIME))
         return self.spelled(
             sum(exact_sum(self.of_part(part, factor) * blocks[part]) for part in parts)
         )
@@ -346,7 +343,7 @@ def spelled(value: Decimal) -> str:
     return "0" if text in ("-0", "") else text
 
 
-def as_text(values: Ints, rounding: Decimal) -> npt.NDArray[np.object_] | Ints:
+def as_text(values: Ints, rounding: Decimal) -> Texts | Ints:
     """Amounts as `.blocks` has them: exact decimals, whole numbers where `rounding` is one."""
     if rounding == rounding.to_integral_value():
         whole: Ints = values * int(rounding)

@@ -14,3 +14,6 @@ Shorts = npt.NDArray[np.int16]
 Levels = npt.NDArray[np.uint16]  # of a bench, or how many are dug
 Floats = npt.NDArray[np.float64]
 Singles = npt.NDArray[np.float32]
+Bytes = npt.NDArray[np.uint8]
+Texts = npt.NDArray[np.object_]
+Wholes = npt.NDArray[np.integer[Any]]  # of any size

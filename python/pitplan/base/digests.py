@@ -18,7 +18,7 @@ import time
 from pathlib import Path
 from typing import NamedTuple
 
-PIECE = 1 << 20
+CHUNK_SIZE = 1 << 20  # bytes of a file that are read at a time
 SETTLED = 2_000_000_000  # nanoseconds: the coarsest grain of a file system that is about (FAT)
 
 
@@ -48,7 +48,7 @@ def sha256(path: Path) -> str:
     """The SHA-256 of a file, in hexadecimal: all of it is read."""
     digest = hashlib.sha256()
     with open(path, "rb") as file:
-        while data := file.read(PIECE):
+        while data := file.read(CHUNK_SIZE):
             digest.update(data)
     return digest.hexdigest()
 

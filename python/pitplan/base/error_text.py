@@ -2,6 +2,7 @@
 further wrong cells, and what to try."""
 from __future__ import annotations
 
+import re
 from pathlib import Path
 from typing import Any
 
@@ -38,7 +39,7 @@ def lines_of(error: PlanError, study_toml: Path | None = None) -> list[str]:
     return found + ([f"  try: {in_a_line(error.try_this)}"] if error.try_this else [])
 
 
-def errors_told(error: PlanError, study_toml: Path | None = None) -> list[dict[str, Any]]:
+def errors_as_data(error: PlanError, study_toml: Path | None = None) -> list[dict[str, Any]]:
     """Each error as JSON has it, with its line of study.toml or None."""
     places = [(each, _place_of(each, study_toml)) for each in error.each()]
     return [{**each.as_data(), "line": place[0] if place else None} for each, place in places]
@@ -52,7 +53,11 @@ def _place_of(error: PlanError, study_toml: Path | None) -> tuple[int, str] | No
     from .study_lines import line_of
 
     try:
-        place = line_of(study_toml.read_text("utf-8-sig"), error.key)
+        text = study_toml.read_text("utf-8-sig")
+        own = re.match(r"line (\d+) isn't TOML", error.what)
+        if own and len(text.splitlines()) >= int(own[1]):  # its key may begin on one before
+            return int(own[1]), text.splitlines()[int(own[1]) - 1]
+        place = line_of(text, error.key)
         is_of_table = error.row is not None and place is not None and place[1].startswith("[")
         return None if is_of_table else place  # of a cell the header of [model] says nothing
     except (OSError, UnicodeDecodeError, ImportError):

@@ -2,7 +2,6 @@
 what stands there, and what to try."""
 from __future__ import annotations
 
-import difflib
 import json
 from collections.abc import Iterable, Iterator, Sequence
 from contextlib import contextmanager
@@ -57,7 +56,7 @@ class Remedy:
         if self.value is None:
             return f"take {self.key[-1]} out of [{self.key[0]}]"
         value = list(dict.fromkeys([*self.has, *self.value])) if self.adds else self.value
-        return f"{self.key[-1]} = {spelled(value)} in [{self.key[0]}]" + (
+        return f"{self.key[-1]} = {toml_spelled(value)} in [{self.key[0]}]" + (
             f", {self.when}" if self.when else ""
         )
 
@@ -314,10 +313,10 @@ def in_a_line(text: str) -> str:
     return "".join(c if c.isprintable() else c.encode("unicode_escape").decode() for c in text)
 
 
-def spelled(value: Any) -> str:
+def toml_spelled(value: Any) -> str:
     """A value as study.toml spells it, in one line.
 
-    >>> spelled({"tonnes": 10400, "rock": "waste"}), spelled(["-99", ""]), spelled(True)
+    >>> toml_spelled({"tonnes": 10400, "rock": "waste"}), toml_spelled(["-99", ""]), toml_spelled(True)
     ('{ tonnes = 10400, rock = "waste" }', '["-99", ""]', 'true')
     """
     if isinstance(value, bool):
@@ -328,8 +327,8 @@ def spelled(value: Any) -> str:
         return (
             "{ "
             + ", ".join(
-                f"{name if name.isidentifier() and name.isascii() else spelled(name)} ="
-                f" {spelled(part)}"
+                f"{name if name.isidentifier() and name.isascii() else toml_spelled(name)} ="
+                f" {toml_spelled(part)}"
                 for name, part in value.items()
             )
             + " }"
@@ -337,39 +336,9 @@ def spelled(value: Any) -> str:
             else "{}"
         )
     if isinstance(value, (list, tuple)):
-        return "[" + ", ".join(map(spelled, value)) + "]"
+        return "[" + ", ".join(map(toml_spelled, value)) + "]"
     return (
         f"{value:g}"
         if isinstance(value, float) and float(f"{value:g}") == value and "e" not in f"{value:g}"
         else repr(value)
     )
-
-
-def meant(word: str, known: Iterable[str]) -> str:
-    """What to add to "there is no such name": the nearest known one, or all that there are.
-
-    >>> meant("dilutoin", ["dilution", "mining"])
-    "; is 'dilution' meant?"
-    """
-    names = [str(name) for name in known]
-    near = near_to(word, names)
-    if near is not None:
-        return f"; is {near!r} meant?"
-    return f"; there are {', '.join(names[:40])}" if names else "; there are none"
-
-
-def swap_of(word: str, names: Iterable[str]) -> tuple[str, str] | None:
-    """A word, and the name that looks most like it; None where none does."""
-    near = near_to(word, [str(name) for name in names])
-    return None if near is None else (word, near)
-
-
-def near_to(word: str, names: Sequence[str]) -> str | None:
-    """The name that looks most like a word; None where none looks like it."""
-    near = difflib.get_close_matches(word, names, 1, 0.6)
-    folded = {name.lower(): name for name in names}
-    if not near and word.lower() in folded:
-        near = [folded[word.lower()]]
-    if not near:
-        near = [name for name in names if len(word) > 1 and word.lower() in name.lower()]
-    return near[0] if near else None

@@ -39,7 +39,7 @@ _LAST = Path("log", "last.jsonl")  # of a study: the lines of the last command t
 class _Sinks:
     """The files that are written to, of this process."""
 
-    opened: list[IO[str]] = field(default_factory=list)
+    files: list[IO[str]] = field(default_factory=list)
 
 
 _SINKS = _Sinks()
@@ -50,7 +50,7 @@ def event(kind: str, **data: Any) -> None:
     named = os.environ.pop(FILE, None)  # processes that this one starts don't write there
     if named:
         _also(Path(named), "a")
-    if _SINKS.opened:
+    if _SINKS.files:
         line = (
             json.dumps(
                 {"time": round(time.time(), 3), "event": kind, **data},
@@ -59,7 +59,7 @@ def event(kind: str, **data: Any) -> None:
             )
             + "\n"
         )
-        for sink in _SINKS.opened:
+        for sink in _SINKS.files:
             with suppress(OSError, ValueError):
                 sink.write(line)
 
@@ -67,7 +67,7 @@ def event(kind: str, **data: Any) -> None:
 def _also(path: Path, mode: str = "w") -> None:
     """Writes to a file, too, from now on; each line at once."""
     with suppress(OSError):
-        _SINKS.opened.append(
+        _SINKS.files.append(
             open(path, mode, encoding="utf-8", errors="backslashreplace", buffering=1)
         )
 
@@ -77,11 +77,11 @@ def begin() -> None:
     event("begin", command=words(), pid=os.getpid(), host=os.uname().nodename)
 
 
-def progress(told: Sequence[Mapping[str, Any]], commands: Sequence[str]) -> dict[str, Any]:
+def progress(events: Sequence[Mapping[str, Any]], commands: Sequence[str]) -> dict[str, Any]:
     """How far a run of several commands is by its events: which of these it is at, what is told of
     it, and how many of how many parts are done."""
-    begun = [at for at, each in enumerate(told) if each["event"] == "begin"]
-    now = told[begun[-1] :] if begun else told
+    begun = [at for at, each in enumerate(events) if each["event"] == "begin"]
+    now = events[begun[-1] :] if begun else events
     latest = {str(each["event"]): each for each in now}
     pits = [each for each in now if each["event"] == "pit"]
     done = {each["factor"] for each in pits if each["state"] in ("proved", "done")}
@@ -97,15 +97,15 @@ def progress(told: Sequence[Mapping[str, Any]], commands: Sequence[str]) -> dict
 def of_study(folder: Path) -> Iterator[Callable[[int, PlanError | None], None]]:
     """Writes to a study's own file, too, as long as a command has the study. The function that it
     gives says there how the command ends."""
-    others, _SINKS.opened = _SINKS.opened, []
+    others, _SINKS.files = _SINKS.files, []
     if (folder / _LAST).parent.is_dir():
         _also(folder / _LAST)
-    own = list(_SINKS.opened)
+    own = list(_SINKS.files)
     begin()
-    _SINKS.opened = [*others, *own]
+    _SINKS.files = [*others, *own]
 
     def ends(status: int, wrong: PlanError | None = None) -> None:
-        _SINKS.opened = own
+        _SINKS.files = own
         if wrong:
             error(wrong)
         end(status)
@@ -113,16 +113,16 @@ def of_study(folder: Path) -> Iterator[Callable[[int, PlanError | None], None]]:
     try:
         yield ends
     finally:
-        _SINKS.opened = others
+        _SINKS.files = others
 
 
 def end(status: int) -> None:
     """Says how the command ended, and closes the files."""
     event("end", status=status)
-    for sink in _SINKS.opened:
+    for sink in _SINKS.files:
         with suppress(OSError):
             sink.close()
-    _SINKS.opened = []
+    _SINKS.files = []
 
 
 def look(text: str) -> None:
@@ -131,13 +131,13 @@ def look(text: str) -> None:
     event("look", what=what, **({"try": advice} if advice else {}))
 
 
-def error(found: PlanError, study_toml: Path | None = None) -> None:
+def error(error: PlanError, study_toml: Path | None = None) -> None:
     """Says each error, with the number of its line of study.toml, where it has one."""
-    if _SINKS.opened:
-        from .error_text import errors_told
+    if _SINKS.files:
+        from .error_text import errors_as_data
 
-        for told in errors_told(found, study_toml):
-            event("error", **told)
+        for fault in errors_as_data(error, study_toml):
+            event("error", **fault)
 
 
 def of_last_run(folder: Path) -> list[dict[str, Any]]:
@@ -147,7 +147,7 @@ def of_last_run(folder: Path) -> list[dict[str, Any]]:
 
 
 def read_on(path: Path, place: int = 0, most: int = -1) -> tuple[list[dict[str, Any]], int]:
-    """The events of a file from a byte on, and the byte behind them. A line that isn't whole yet is
+    """The events of a file from a byte on, and the byte after them. A line that isn't whole yet is
     left for the next time, and one that is no event is left out; of a file that isn't there nothing
     is told.
 
@@ -166,9 +166,9 @@ def read_on(path: Path, place: int = 0, most: int = -1) -> tuple[list[dict[str, 
     whole = new[: new.rfind(b"\n") + 1]
     for line in whole.splitlines():
         with suppress(ValueError):  # cut off where the disk was full
-            told = json.loads(line)
-            if isinstance(told, dict) and "event" in told:
-                found.append(told)
+            entry = json.loads(line)
+            if isinstance(entry, dict) and "event" in entry:
+                found.append(entry)
     return found, place + len(whole)
 
 

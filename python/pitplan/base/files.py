@@ -8,7 +8,7 @@ import os
 import secrets
 import shutil
 import tempfile
-from collections.abc import Iterator
+from collections.abc import Callable, Iterator
 from contextlib import contextmanager, suppress
 from pathlib import Path
 from typing import Any
@@ -18,6 +18,8 @@ from .within import refuse_outside
 
 ROOM = "make room on the disk, and start the same command again: what is done is kept"
 FULL = (errno.ENOSPC, errno.EDQUOT)  # a disk has no room, or its user's share of it
+# of a file that is about to be put in place of another: the new one, and its place
+before_replacing: list[Callable[[Path, Path], None]] = []
 _RENAME_ATTEMPTS = 10  # where other processes put theirs in the same place
 
 
@@ -45,6 +47,8 @@ def whole_file(target: str | os.PathLike[str]) -> Iterator[Path]:
         with tempfile.TemporaryDirectory(prefix=place, dir=path.parent) as work:
             part = Path(work) / path.name
             yield part
+            for look in before_replacing:
+                look(part, path)
             os.replace(part, path)
     except OSError as error:
         if error.filename is None or str(error.filename).startswith(str(path.with_name(place))):

@@ -18,7 +18,7 @@ from .amounts import LARGEST_FACTOR
 from .errors import PlanError
 
 Holds = Callable[[Any], bool]
-_MOST = 1 << 53  # a count that a float holds too
+_MOST_COUNT = 1 << 53  # a count that a float holds too
 
 
 class Damaged(PlanError):
@@ -85,7 +85,7 @@ def is_digest(value: Any) -> bool:
 
 
 def is_count(value: Any) -> bool:
-    return isinstance(value, int) and not isinstance(value, bool) and 0 <= value <= _MOST
+    return isinstance(value, int) and not isinstance(value, bool) and 0 <= value <= _MOST_COUNT
 
 
 def is_number(value: Any) -> bool:
@@ -93,7 +93,7 @@ def is_number(value: Any) -> bool:
     return (
         isinstance(value, (int, float))
         and not isinstance(value, bool)
-        and abs(value) <= _MOST
+        and abs(value) <= _MOST_COUNT
         and math.isfinite(value)
     )
 

@@ -17,7 +17,7 @@ from collections.abc import Iterator
 from pathlib import Path
 
 _GROUPS = Path("/sys/fs/cgroup")
-_OWN = Path("/proc/self/cgroup")
+_OWN_CGROUP = Path("/proc/self/cgroup")
 _MEMORY = Path("/proc/meminfo")
 UNKNOWN = 6_000_000_000  # bytes, where neither the system nor a group says anything
 _TWO = ""  # where version 2 stands beside the controllers of version 1
@@ -37,7 +37,7 @@ def _number_in(text: str, pattern: str) -> int | None:
     return int(found[1]) if found else None
 
 
-def _folders(controller: str, groups: Path = _GROUPS, own: Path = _OWN) -> list[Path]:
+def _folders(controller: str, groups: Path = _GROUPS, own: Path = _OWN_CGROUP) -> list[Path]:
     """The folders of this process's group and of those above it, from the top down.
 
     Parameters
@@ -59,7 +59,7 @@ def _folders(controller: str, groups: Path = _GROUPS, own: Path = _OWN) -> list[
     return [top.joinpath(*parts[:count]) for top in tops for count in range(len(parts) + 1)]
 
 
-def processors(groups: Path = _GROUPS, own: Path = _OWN) -> int:
+def processors(groups: Path = _GROUPS, own: Path = _OWN_CGROUP) -> int:
     """How many processors this process may keep busy: those that it may run on, or the whole ones
     of its quota, at least one."""
     found = [len(os.sched_getaffinity(0))]
@@ -75,7 +75,7 @@ def processors(groups: Path = _GROUPS, own: Path = _OWN) -> int:
     return max(1, min(found))
 
 
-def free_memory(groups: Path = _GROUPS, own: Path = _OWN, memory: Path = _MEMORY) -> int:
+def free_memory(groups: Path = _GROUPS, own: Path = _OWN_CGROUP, memory: Path = _MEMORY) -> int:
     """How many bytes of memory this process may still take: what is free on the machine, and what
     its groups' limits leave."""
     free = _number_in(_text_of(memory), r"^MemAvailable:\s+(\d+)")
@@ -85,7 +85,7 @@ def free_memory(groups: Path = _GROUPS, own: Path = _OWN, memory: Path = _MEMORY
     return max(0, min(found, default=UNKNOWN))
 
 
-def whole_memory(groups: Path = _GROUPS, own: Path = _OWN, memory: Path = _MEMORY) -> int:
+def whole_memory(groups: Path = _GROUPS, own: Path = _OWN_CGROUP, memory: Path = _MEMORY) -> int:
     """How many bytes of memory a process may take that has the machine, or its group, to itself:
     those of the machine, or the least of its groups' limits."""
     whole = _number_in(_text_of(memory), r"^MemTotal:\s+(\d+)")

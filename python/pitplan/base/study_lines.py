@@ -35,8 +35,8 @@ def lines_of(text: str) -> list[dict[str, str]]:
             section, each = header[1], header[2] or ""  # as [[economics.processes]]
         begins, bare = _BEGINS.match(line), _BARE.match(line)
         key, end = each or (begins[1] if begins else ""), bare.end() if bare else 0
-        told = {"section": section, "key": key, "said": line[:end], "comment": line[end:]}
-        found.append(told)
+        parts = {"section": section, "key": key, "said": line[:end], "comment": line[end:]}
+        found.append(parts)
     return found
 
 
@@ -49,7 +49,8 @@ def line_of(text: str, path: KeyPath) -> tuple[int, str] | None:
 
     >>> line_of('[model]\\nsize = [20, 20,\\n  x]', ("model", "size"))  # no TOML
     (2, 'size = [20, 20,')
-    >>> line_of('[economics]\\nmetals = [\\n  { name = "gold", price = 1 },\\n]', ("economics", "metals", "gold", "price"))
+    >>> text = '[economics]\\nmetals = [\\n  { name = "gold", price = 1 },\\n]'
+    >>> line_of(text, ("economics", "metals", "gold", "price"))
     (3, '  { name = "gold", price = 1 },')
     """
     import tomlkit

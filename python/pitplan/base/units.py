@@ -4,7 +4,8 @@ from __future__ import annotations
 
 from dataclasses import dataclass
 
-from .errors import PlanError, meant
+from .errors import PlanError
+from .near_words import meant
 
 # Grams of metal in a tonne of rock at a grade of 1, and grams in the unit that a price is for. The
 # pound and the troy ounce are those of the international agreement of 1959; a dry metric tonne unit

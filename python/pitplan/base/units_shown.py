@@ -9,6 +9,7 @@ from typing import Any
 
 from .units import WEIGHTS
 
+_THOUSAND = 1000  # a factor is in thousandths
 _PREFIXES = ((1e9, "G", "thousand million"), (1e6, "M", "million"), (1e3, "k", "thousand"))
 
 
@@ -122,14 +123,27 @@ def counted(count: int, what: str) -> str:
     return f"{count:,} {what}" if count == 1 else f"{count:,} {what}s"
 
 
+def duration_text(seconds: float) -> str:
+    """A time in words.
+
+    >>> duration_text(0.2), duration_text(90), duration_text(5400), duration_text(9000)
+    ('less than a second', '90 seconds', '90 minutes', '2.5 hours')
+    """
+    if seconds < 1:
+        return "less than a second"
+    if seconds < 120:
+        return f"{seconds:.0f} seconds"
+    return f"{seconds / 60:.0f} minutes" if seconds < 7200 else f"{seconds / 3600:.1f} hours"
+
+
 def factor_text(thousandths: int) -> str:
     """A factor as a share of the price: 850 is 0.85, 875 is 0.875."""
-    return f"{thousandths / 1000:.3f}" if thousandths % 10 else f"{thousandths / 1000:.2f}"
+    return f"{thousandths / _THOUSAND:.{3 if thousandths % 10 else 2}f}"
 
 
 def share_text(thousandths: float) -> str:
     """A factor as a message names it: 850 is 0.85, 800 is 0.8, 1000 is 1."""
-    return f"{thousandths / 1000:g}"
+    return f"{thousandths / _THOUSAND:g}"
 
 
 def separated(number: str) -> str:

@@ -1,4 +1,4 @@
-"""`pitplan init` and `pitplan build`."""
+"""`pitplan init` and `pitplan build`: from a table to study.toml, and to files for `pit`."""
 from __future__ import annotations
 
 from pathlib import Path
@@ -8,10 +8,11 @@ import typer
 
 from ..base.errors import PlanError
 from ..base.next_command import command
+from ..base.units_shown import duration_text
 from ..base.within import refuse_outside
 from ..table.study_keys import keys_of
-from .console import STUDY, app, described, err, say, warn
-from .tables import print_kinds, print_tonnage, tell_strange
+from .console import STUDY, app, described, err, say, tell_aside, warn
+from .tables import print_kinds, print_patterns, print_regions, print_tonnage, tell_strange
 
 if TYPE_CHECKING:
     from ..study.study import Study
@@ -107,12 +108,10 @@ def build(folder: Path = STUDY) -> None:
     import numpy as np
 
     from ..base.amounts import THOUSAND
-
-    from ..model.tonnage import by_rock
-    from ..study.looks import looks
+    from ..model.grade_tonnage import by_rock
+    from ..study.strange_inputs import looks
     from ..study.building import Building
     from ..study.study import Study
-    from .slopes import key_of, print_patterns, print_regions
 
     plan = described(folder)
     with err.status("reading the table"):
@@ -149,24 +148,18 @@ def build(folder: Path = STUDY) -> None:
     tell_strange(looks(model, study.priced.first(len(model)), plan))
     print_patterns(plan.slopes, study.model.grid, study.model.units.length)
     tell_strange(list(study.pairs.strange()))
-    _set_aside(study, key_of(plan.slopes, study.model.grid))
+    _set_aside(study, plan)
     _print_size(study, plan)
 
 
-def _set_aside(study: Study, walls: str) -> None:
+def _set_aside(study: Study, plan: StudyFile) -> None:
     """Puts the tables and pictures of the model before out of the way of the new one's, and says
     so."""
-    from ..study import older
+    from ..study import older_outputs
 
     folder = study.folder / "out"
-    moved, changed = older.set_aside(folder, {study.key, walls})
-    if moved:
-        say(f"{folder / older.OLDER} has what was written of the model before: {', '.join(moved)}")
-    for name in changed:
-        warn(
-            f"{folder / name} is of the model before; it was changed since it was written, so it"
-            " stays there"
-        )
+    keys = {study.key, older_outputs.key_of_walls(plan.slopes, study.model.grid)}
+    tell_aside(folder, older_outputs.set_aside(folder, keys), "model")
 
 
 def _print_size(study: Study, plan: StudyFile) -> None:
@@ -177,17 +170,8 @@ def _print_size(study: Study, plan: StudyFile) -> None:
     count = len(plan.factors)
     workers = workers_for(study)
     say(
-        f"{study.pairs}. A pit will take about"
-        f" {guess.memory / 1e6:,.0f} MB and {duration(guess.seconds)}; all {count}, {workers} at a"
-        f" time, {duration(guess.seconds * count / workers)}"
+        f"{study.pairs}. A pit will take about {guess.memory / 1e6:,.0f} MB and"
+        f" {duration_text(guess.seconds)}; all {count}, {workers} at a time,"
+        f" {duration_text(guess.seconds * count / workers)}"
     )
     say(f"built in {study.folder}; then: {command('shells', study.named)}")
-
-
-def duration(seconds: float) -> str:
-    """A time in words."""
-    if seconds < 1:
-        return "less than a second"
-    if seconds < 120:
-        return f"{seconds:.0f} seconds"
-    return f"{seconds / 60:.0f} minutes" if seconds < 7200 else f"{seconds / 3600:.1f} hours"

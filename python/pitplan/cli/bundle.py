@@ -1,4 +1,4 @@
-"""`pitplan bundle`."""
+"""`pitplan bundle`: what an auditor gets, in a folder."""
 from __future__ import annotations
 
 from pathlib import Path
@@ -12,14 +12,14 @@ from .console import and_study, app, described, err, say, shells_of, study_and, 
 def bundle(pair: List[str] = and_study("DIR", "the new folder.")) -> None:
     """All that the numbers rest on, with scripts that check it again: for an auditor."""
     from ..audit.bundle import write_bundle
-    from .shells import with_certificates
+    from .chosen_pits import with_certificates
 
     folder, named = study_and("bundle", pair)
     target, plan = Path(named), described(folder)
-    with err.status("the pits are read again"):
+    with err.long_step("the pits are read again"):
         shells, rates = shells_of(folder)
     shells = with_certificates(shells)
-    with err.status("files are copied, and their digests taken"):
+    with err.long_step("files are copied, and their digests taken"):
         dialect, terms = plan.keys.dialect(plan.table), plan.values["schedule"]
         digest = write_bundle(shells, target, plan.path, dialect, rates, terms)
     say(

@@ -1,4 +1,4 @@
-"""`pitplan check`."""
+"""`pitplan check`: all errors of study.toml and the table, and what lies in the ground."""
 from __future__ import annotations
 
 import time
@@ -12,7 +12,7 @@ from ..base.errors import ENDED, Gathered, PlanError
 from ..base.next_command import command
 from ..base.units_shown import counted
 from . import console
-from .tables import print_tonnage, tell_strange
+from .tables import print_regions, print_tonnage, tell_strange
 from .console import STUDY, app, err, say
 
 if TYPE_CHECKING:
@@ -39,18 +39,19 @@ def check(
         except KeyboardInterrupt:  # nothing was begun that could be kept
             err.print("stopped")
             raise typer.Exit(ENDED) from None
-    checked, found = _once(folder), Gathered()
+    checked = _once(folder)
+    found = Gathered()
     found.add(checked.errors)
     found.tell()
     say(f"{_ending(checked)}; then: {command('build', folder)}")
 
 
-def _ending(found: Checked) -> str:
+def _ending(checked: Checked) -> str:
     """What a check came to, in words."""
-    if found.errors:
-        return counted(len(found.errors), "error")
-    looks = counted(len(found.looks), "look")
-    return f"no errors; {looks} to decide on" if found.looks else "nothing is wrong"
+    if checked.errors:
+        return counted(len(checked.errors), "error")
+    looks = counted(len(checked.looks), "look")
+    return f"no errors; {looks} to decide on" if checked.looks else "nothing is wrong"
 
 
 def _not_estimated(cells: Mapping[str, int]) -> str:
@@ -70,7 +71,6 @@ def _once(folder: Path) -> Checked:
     """Checks a study, shows what there is to show, and gives what was found."""
     from ..study.check import check
     from ..study.study_file import path_of
-    from .slopes import print_regions
 
     console.study_toml = path_of(folder)
     with err.status("reading study.toml and the table"):
@@ -78,7 +78,11 @@ def _once(folder: Path) -> Checked:
     model, parts = found.model, found.parts
     if model is not None:
         say(
-            f"{model.table}: {len(model):,} blocks of {' x '.join(f'{v:g}' for v in model.grid.size)} on a grid of {' x '.join(map(str, model.grid.shape))}"
+            (
+                f"{model.table}: {len(model):,} blocks of"
+                f" {' x '.join(f'{v:g}' for v in model.grid.size)} on a grid of"
+                f" {' x '.join(map(str, model.grid.shape))}"
+            )
         )
         for note in model.notes:
             say("  " + note)
@@ -145,7 +149,8 @@ def _watch(folder: Path) -> NoReturn:
 
 
 def _stamps(folder: Path) -> list[tuple[int, int] | None]:
-    """When study.toml and the table were written last, and their sizes; None of a file that isn't there."""
+    """When study.toml and the table were written last, and their sizes; None of a file that isn't
+    there."""
     from ..study.study_file import parts_of_file, path_of
 
     path, table = path_of(folder), None

@@ -1,4 +1,4 @@
-"""`pitplan compare`."""
+"""`pitplan compare`: a designed pit beside the best one."""
 from __future__ import annotations
 
 import re
@@ -47,15 +47,16 @@ def compare(
         help="Draw the plan of the bench at this elevation. Default: where the two differ most.",
     ),
 ) -> None:
-    """Put a designed pit beside the proved best one: does it keep the slopes, what is it worth, how far from the bound. Status 1 where it breaks the slopes, or digs what may not be dug."""
-    from .chosen import DesignOptions, beside, design_of
+    """Put a designed pit beside the proved best one: does it keep the slopes, what is it worth, how
+    far from the bound. Status 1 where it breaks the slopes, or digs what may not be dug."""
+    from .chosen_pits import DesignOptions, beside, design_of
 
     if sum(given is not None for given in (ids, column, surface)) != 1:
         raise PlanError("a design is given by one of --ids FILE, --column NAME and --surface FILE")
     study = open_study(folder)
     options = DesignOptions(ids=ids, surface=surface, layers=layer, column=column, value=value)
     found = beside(study, design_of(study, options, described(folder).keys.encoding), factor)
-    with err.status("tables and plans are written"):
+    with err.long_step("tables and plans are written"):
         target = _write_comparison(study, found, bench)
     _tell(study, found)
     say(
@@ -70,7 +71,7 @@ def compare(
         raise typer.Exit(1)
 
 
-def _write_comparison(study: Study, found: Comparison, elevations: list[float]) -> Path:
+def _write_comparison(study: Study, comparison: Comparison, elevations: list[float]) -> Path:
     """Writes all that was found into a folder of its own."""
     from ..base.files import write_json
     from ..plans.compare import by_way
@@ -78,92 +79,109 @@ def _write_comparison(study: Study, found: Comparison, elevations: list[float]) 
     from ..views.compare_plan import plan, widest_bench
     from ..views.pictures import save
 
-    target = results(study) / ("compare-" + re.sub(r"[^\w.-]+", "_", found.design.name))
+    target = results(study) / ("compare-" + re.sub(r"[^\w.-]+", "_", comparison.design.name))
     target.mkdir(exist_ok=True)
     tables: dict[str, Any] = {
-        "benches.csv": found.benches,
-        "reserves.csv": by_way(study, found.design.held, found.optimum, found.factor),
+        "benches.csv": comparison.benches,
+        "reserves.csv": by_way(
+            study, comparison.design.held, comparison.optimum, comparison.factor
+        ),
     }
-    if found.repair:
-        b = study.model.blocks[found.repair.held & ~found.design.held]
+    if comparison.repair:
+        b = study.model.blocks[comparison.repair.held & ~comparison.design.held]
         tables |= {
-            "pairs.csv": found.pairs,
-            "walls.csv": found.walls,
+            "pairs.csv": comparison.pairs,
+            "walls.csv": comparison.walls,
             "repair.csv": b[["id", "rock", "tonnes"]],
         }
     for stale in ("pairs.csv", "walls.csv", "repair.csv"):
         (target / stale).unlink(missing_ok=True)
     for name, frame in tables.items():
         write_table(frame, target / name)
-    write_json(target / "summary.json", summary(study, found))
-    for elevation in elevations or ([widest_bench(found)] if len(found.benches) else []):
-        save(plan(study.model, found, elevation), target / f"plan-{length_text(elevation, '')}.png")
+    write_json(target / "summary.json", summary(study, comparison))
+    for elevation in elevations or ([widest_bench(comparison)] if len(comparison.benches) else []):
+        save(
+            plan(study.model, comparison, elevation),
+            target / f"plan-{length_text(elevation, '')}.png",
+        )
     return target
 
 
-def summary(study: Study, found: Comparison) -> dict[str, Any]:
+def summary(study: Study, comparison: Comparison) -> dict[str, Any]:
     """What an auditor asks of the comparison."""
-    verdict = study.verdict(found.factor)
+    from ..base.amounts import THOUSAND
+
+    verdict = study.verdict(comparison.factor)
     tonnes, shut = (
         study.model.blocks.tonnes.to_numpy(float),
-        found.design.held & study.priced.forbidden,
+        comparison.design.held & study.priced.forbidden,
     )
     facts: dict[str, Any] = {
-        "design": found.design.name,
-        "notes": found.design.notes,
-        "factor": found.factor / 1000,
-        "pit_value_said": found.said,
-        "is_closed": found.is_closed,
-        "blocks": int(found.design.held.sum()),
-        "tonnes": float(tonnes[found.design.held].sum()),
-        "worth": found.worth,
-        "bound": found.bound,
-        "gap": found.gap,
-        "best_blocks": int(found.optimum.sum()),
-        "best_tonnes": float(tonnes[found.optimum].sum()),
-        "left_tonnes": float(found.benches.left_t.sum()),
-        "over_tonnes": float(found.benches.over_t.sum()),
+        "design": comparison.design.name,
+        "notes": comparison.design.notes,
+        "factor": comparison.factor / THOUSAND,
+        "pit_value_said": comparison.said,
+        "is_closed": comparison.is_closed,
+        "blocks": int(comparison.design.held.sum()),
+        "tonnes": float(tonnes[comparison.design.held].sum()),
+        "worth": comparison.worth,
+        "bound": comparison.bound,
+        "gap": comparison.gap,
+        "best_blocks": int(comparison.optimum.sum()),
+        "best_tonnes": float(tonnes[comparison.optimum].sum()),
+        "left_tonnes": float(comparison.benches.left_t.sum()),
+        "over_tonnes": float(comparison.benches.over_t.sum()),
         "forbidden_blocks": int(shut.sum()),
         "forbidden_tonnes": float(tonnes[shut].sum()),
         "certificate": verdict["certificate"] if verdict else None,
         "model": study.key,
         "pit": study.manifest["pit"],
     }
-    if found.repair:
+    if comparison.repair:
         facts["repair"] = {
-            "blocks": found.repair.blocks,
-            "tonnes": found.repair.tonnes,
-            "worth": found.repair.worth,
-            "gap": found.repair.gap,
+            "blocks": comparison.repair.blocks,
+            "tonnes": comparison.repair.tonnes,
+            "worth": comparison.repair.worth,
+            "gap": comparison.repair.gap,
         }
-        facts["broken_pairs"] = len(found.pairs)
+        facts["broken_pairs"] = len(comparison.pairs)
     return facts
 
 
-def _tell(study: Study, found: Comparison) -> None:
+def _tell(study: Study, comparison: Comparison) -> None:
     """The comparison on the screen."""
     from ..plans.compare_words import forbidden_lines, money, verdict_lines
 
-    currency, held, units = study.currency, found.design.held, study.model.units
+    currency, held, units = study.currency, comparison.design.held, study.model.units
     tonnes = study.model.blocks.tonnes.to_numpy(float)
-    design, best = tonnes[held].sum(), tonnes[found.optimum].sum()
+    design, best = tonnes[held].sum(), tonnes[comparison.optimum].sum()
     rock = printed_scale([design, best], units.weight)
     lines = [
-        f"{found.design.name}: {int(held.sum()):,} blocks, {rock.said(design)}, worth {money(found.worth, currency)} at factor {share_text(found.factor)}",
-        *(f"  {note}" for note in found.design.notes),
+        (
+            f"{comparison.design.name}: {int(held.sum()):,} blocks, {rock.said(design)}, worth"
+            f" {money(comparison.worth, currency)} at factor {share_text(comparison.factor)}"
+        ),
+        *(f"  {note}" for note in comparison.design.notes),
         *forbidden_lines(study, held),
-        f"best pit: {int(found.optimum.sum()):,} blocks, {rock.said(best)}, worth {money(found.bound, currency)}: no pit that keeps the slopes is worth more",
-        *verdict_lines(found, currency, units),
+        (
+            f"best pit: {int(comparison.optimum.sum()):,} blocks, {rock.said(best)}, worth"
+            f" {money(comparison.bound, currency)}: no pit that keeps the slopes is worth more"
+        ),
+        *verdict_lines(comparison, currency, units),
     ]
-    b = found.benches
+    b = comparison.benches
     lines.append(
-        f"left by the design {rock.said(b.left_t.sum())} ({rock.said(b.left_ore_t.sum())} of ore), beyond the best pit {rock.said(b.over_t.sum())} ({rock.said(b.over_ore_t.sum())} of ore)"
+        (
+            f"left by the design {rock.said(b.left_t.sum())} ({rock.said(b.left_ore_t.sum())}"
+            f" of ore), beyond the best pit {rock.said(b.over_t.sum())}"
+            f" ({rock.said(b.over_ore_t.sum())} of ore)"
+        )
     )
     for line in lines:
         say(line)
     print_kinds(
         study,
-        {found.design.name: held, "best pit": found.optimum},
+        {comparison.design.name: held, "best pit": comparison.optimum},
         "",
-        found.factor,
+        comparison.factor,
     )

@@ -8,7 +8,7 @@ from dataclasses import dataclass
 from pathlib import Path
 from typing import TYPE_CHECKING, Any, Optional
 
-from ..base.later import lazily
+from ..base.lazy_modules import lazily
 
 lazily("typer.rich_utils")  # typer loads it with itself, and only help and errors ask for it
 
@@ -69,6 +69,12 @@ app = typer.Typer(
 class _Messages(Console):
     """A console whose steps are events, too."""
 
+    def long_step(self, text: str) -> Status:
+        """A step that may take minutes: off a terminal, where nothing moves, a line says so."""
+        if not self.is_terminal:
+            print(f"{text} ..", file=sys.stderr, flush=True)
+        return self.status(text)
+
     def status(self, status: RenderableType, **more: Any) -> Status:
         events.event("step", what=str(status))
         return super().status(status, **more)
@@ -97,7 +103,8 @@ STUDY: Any = typer.Argument(
 
 
 def and_study(metavar: str, what: str) -> Any:
-    """The argument of a command that takes a study, which may be left out, and one more word; `study_and` parts them."""
+    """The argument of a command that takes a study, which may be left out, and one more word;
+    `study_and` parts them."""
     text = f"The folder of the study (default: this one), and {what}"
     return typer.Argument(..., metavar=f"[STUDY] {metavar}", help=text)
 
@@ -133,6 +140,14 @@ COLUMN_VALUE: Any = typer.Option(
     "--value",
     show_default=False,
     help="With --column: the cell of the rows that it takes. Default: any number above 0, or yes.",
+)
+
+# beside an option --schedule of a command that looks for several
+SCHEDULES_GAP: Any = typer.Option(
+    0.5, "--gap", min=0.0, help="With --schedule: end each within so many percent of its bound."
+)
+SCHEDULES_MINUTES: Any = typer.Option(
+    5.0, "--minutes", min=0.0, help="With --schedule: end each after so many minutes."
 )
 
 
@@ -196,20 +211,20 @@ def print_columns(
     title: str,
     names: Sequence[str],
     rows: Sequence[Sequence[str]],
-    words: int = 0,
+    word_columns: int = 0,
     has_total: bool = False,
 ) -> None:
-    """Prints a table of texts; the first `words` columns stand left, and a total below a gap. Where
+    """Prints a table of texts; the first `word_columns` columns stand left, and a total below a gap. Where
     the screen is narrow the headings go over several lines, the gaps shrink, and what has no room
     stands in a part of its own below, beside the first columns; no figure and no word is cut off.
     """
     from rich.box import SIMPLE_HEAD
     from rich.table import Table
 
-    from ..base.folding import folded
+    from ..base.narrow_tables import folded
 
     events.event("table", title=title, names=list(names), rows=[list(row) for row in rows])
-    fit = folded(names, rows, out.width, max(words, 1))
+    fit = folded(names, rows, out.width, max(word_columns, 1))
     for at, part in enumerate(fit.parts):
         shown = Table(
             title=None if at else escape(title),
@@ -221,7 +236,7 @@ def print_columns(
         for i in part:
             width = fit.widths[i] if fit.is_narrow else None  # rich would take it from words, too
             shown.add_column(
-                escape(names[i]), justify="left" if i < words else "right", width=width
+                escape(names[i]), justify="left" if i < word_columns else "right", width=width
             )
         for left, row in zip(reversed(range(len(rows))), rows):
             shown.add_row(*(escape(row[i]) for i in part), end_section=has_total and left == 1)
@@ -285,9 +300,30 @@ def shells_of(folder: Path) -> tuple[Shells, dict[str, Any]]:
 def results(study: Study) -> Path:
     """The folder for tables and pictures, made where it isn't there. What is written there from now
     on is noted as of this model."""
-    from ..study import older
+    from ..study import older_outputs
 
     folder = study.folder / "out"
     folder.mkdir(exist_ok=True)
-    older.watch(folder, study.key)
+    older_outputs.watch(folder, study.key, warn)
     return folder
+
+
+def show_schedule(study: Study, digest: str) -> None:
+    """From now on what is written shows the schedule with this digest. Exports, reports, tables and
+    pictures of another one are put out of the way, and this is said."""
+    from ..study import older_outputs
+
+    folder = results(study)
+    tell_aside(folder, older_outputs.set_schedules_aside(folder, digest), "schedule")
+    older_outputs.watch_schedule(digest)
+
+
+def tell_aside(folder: Path, aside: tuple[list[str], list[str]], what: str) -> None:
+    """Says what of the model or the schedule before was put out of the way, as `older` gives it."""
+    from ..study import older_outputs
+
+    (moved, changed), place = aside, folder / older_outputs.OLDER
+    if moved:
+        say(f"{place} has what was written of the {what} before: {', '.join(moved)}")
+    if changed:
+        warn(f"{place} has {older_outputs.CHANGED}, of the {what} before: {', '.join(changed)}")

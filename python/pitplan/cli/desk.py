@@ -1,4 +1,4 @@
-"""`pitplan desk`."""
+"""`pitplan desk`: the commands and study.toml as a page in a browser."""
 from __future__ import annotations
 
 from pathlib import Path
@@ -9,7 +9,10 @@ import typer
 from ..base.errors import PlanError
 from .console import app
 
-_NEEDS = "sudo apt-get install pitplan-desk, or: sudo apt-get install --no-install-recommends python3-starlette python3-uvicorn"
+_NEEDS = (
+    "sudo apt-get install pitplan-desk, or: sudo apt-get install --no-install-recommends"
+    " python3-starlette python3-uvicorn"
+)
 
 
 @app.command()

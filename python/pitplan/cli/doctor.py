@@ -1,4 +1,4 @@
-"""`pitplan doctor`."""
+"""`pitplan doctor`: whether all that pitplan needs is there and works."""
 from __future__ import annotations
 
 import typer

@@ -1,11 +1,12 @@
-"""`pitplan export`."""
+"""`pitplan export`: pits and pushbacks as files for other programs."""
 from __future__ import annotations
 
 from pathlib import Path
 from typing import TYPE_CHECKING, Any, Callable, Optional
 
 import typer
-from ..base.errors import PlanError, meant
+from ..base.errors import PlanError
+from ..base.near_words import meant
 from ..base.units_shown import length_text
 from ..views.export.kinds import KINDS, MINELIB
 from .console import STUDY, app, err, open_study, results, say, shells_of
@@ -16,7 +17,14 @@ if TYPE_CHECKING:
 _TO: Any = typer.Option(
     "dxf,vtu,csv",
     "--to",
-    help="Any of dxf, vtu, csv, gpkg, minelib, with commas. minelib is the model alone, for programs that read .prec and .upit.",
+    help=(
+        "Any of dxf, vtu, csv, gpkg, minelib, with commas. minelib is the model alone, for"
+        " programs that read .prec and .upit."
+    ),
+)
+_PUSHBACKS = (
+    "Export pushbacks in place of pits: the factors of the pits that end them,"
+    " ascending, as 0.5,0.75,1.0; widened where `phases` widened these last."
 )
 
 
@@ -33,7 +41,7 @@ def export(
         None,
         "--phases",
         show_default=False,
-        help="Export pushbacks in place of pits: the factors of the pits that end them, ascending, as 0.5,0.75,1.0; widened where `phases` widened these last.",
+        help=_PUSHBACKS,
     ),
     is_schedule: bool = typer.Option(
         False,
@@ -85,7 +93,7 @@ def export(
 
 def _chosen_of(folder: Path, factors: str | None) -> Shells:
     """The pits at some factors, a list with commas; else all of study.toml."""
-    from .chosen import pits_at, shares_of
+    from .chosen_pits import pits_at, shares_of
 
     return pits_at(folder, shares_of(factors)) if factors else shells_of(folder)[0]
 
@@ -99,11 +107,11 @@ def _year_ends(folder: Path, factors: str | None) -> Shells:
         Where pits are asked for too.
     """
     from ..schedule.year_ends import YearEnds
-    from .schedule import last_of
+    from .chosen_pits import last_schedule
 
     if factors:
         raise PlanError("--schedule exports years, and --factors pits", try_this="one at a time")
-    return YearEnds(last_of(folder))
+    return YearEnds(last_schedule(folder))
 
 
 def _mines_at(folder: Path, phases: str, others: str | bool, kinds: list[str]) -> Shells:
@@ -115,7 +123,7 @@ def _mines_at(folder: Path, phases: str, others: str | bool, kinds: list[str]) -
         Where pits or years are asked for too, or a kind of file that has what is proved of pits.
     """
     from ..plans.phases import Mines
-    from .chosen import pushbacks_at
+    from .chosen_pits import pushbacks_at
 
     if others:
         raise PlanError(

@@ -2,6 +2,7 @@
 from __future__ import annotations
 
 import errno
+import gc
 import importlib
 import inspect
 import pkgutil
@@ -11,7 +12,7 @@ from pathlib import Path
 import click
 from rich.markup import escape
 
-from ..base import events, stops
+from ..base import events, interrupts
 from ..base.errors import (
     ENDED,
     MACHINE,
@@ -21,9 +22,9 @@ from ..base.errors import (
     exit_status,
     STOPPED,
 )
-from ..base.later import lazily
+from ..base.lazy_modules import lazily
 from ..base.next_command import remember
-from ..study import older
+from ..study import older_outputs
 from .console import app, err, tell
 from .taking_turns import take_turns
 
@@ -52,7 +53,7 @@ ORDER = (
     "doctor",
 )
 # modules of this package that have no command
-_SHARED = ("main", "console", "chosen", "taking_turns")
+_SHARED = ("main", "console", "chosen_pits", "tables", "progress", "tasks_here", "taking_turns")
 __all__ = ["ENDED", "MACHINE", "NO", "WRONG", "main"]
 
 
@@ -95,13 +96,14 @@ def main() -> None:
         _run()
     except SystemExit as ended:
         events.end(exit_status(ended))
+        gc.freeze()  # or the end goes over all that pandas and Numba have made, half a second
         raise
 
 
 def _run() -> None:
     """Runs a command, and says how it failed. Ends the process by its exit status."""
     try:
-        stops.hear()
+        interrupts.hear()
         remember(sys.argv[0])
         events.begin()
         lazily("pandas")  # the first pits can be looked for while it is loaded
@@ -110,7 +112,7 @@ def _run() -> None:
         try:
             status = app(prog_name="pitplan", standalone_mode=False)
         finally:
-            older.note()
+            older_outputs.note()
         sys.exit(status if isinstance(status, int) else 0)
     except click.ClickException as error:
         error.show()
@@ -128,11 +130,6 @@ def _run() -> None:
         )
         sys.exit(MACHINE)
     except OSError as error:
-        err.print(
-            (
-                f"[red]error:[/red] {escape(str(error.filename or ''))}:"
-                f" {escape(str(error.strerror))}{_remedy(error)}"
-            ),
-            soft_wrap=True,
-        )
+        what = f"{error.filename}: {error.strerror}" if error.filename else f"{error}"
+        err.print(f"[red]error:[/red] {escape(what)}{_remedy(error)}", soft_wrap=True)
         sys.exit(MACHINE)

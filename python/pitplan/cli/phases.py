@@ -1,4 +1,4 @@
-"""`pitplan phases`."""
+"""`pitplan phases`: pushbacks, as pits of some factors or widened for machines."""
 from __future__ import annotations
 
 from pathlib import Path
@@ -28,6 +28,10 @@ _WORST = 3  # thin benches of a pushback that are named
 _PAIR = and_study(
     "FACTORS", "the factors of the pits that end the pushbacks, ascending, as 0.5,0.75,1.0."
 )
+_WIDEN = (
+    "Make each pushback this wide, in the unit of the coordinates, by blocks of the"
+    " next pit that it takes in, or that it leaves for it."
+)
 
 
 @app.command()
@@ -37,13 +41,16 @@ def phases(
         None,
         "--mining-width",
         min=0.0,
-        help="The least width that machines need, in the unit of the coordinates: where a pushback is thinner is told by bench.",
+        help=(
+            "The least width that machines need, in the unit of the coordinates: where a"
+            " pushback is thinner is told by bench."
+        ),
     ),
     widen: Optional[float] = typer.Option(
         None,
         "--widen",
         min=0.0,
-        help="Make each pushback this wide, in the unit of the coordinates, by blocks of the next pit that it takes in, or that it leaves for it.",
+        help=_WIDEN,
     ),
 ) -> None:
     """Cut the mine into pushbacks: rock, ore, grade, metal, strip ratio and worth of each, bench by bench."""
@@ -51,7 +58,7 @@ def phases(
     from ..plans.phases import Phases
     from ..plans.widening import Widening
     from ..table.spreadsheets import write_table
-    from .chosen import pits_at, shares_of
+    from .chosen_pits import pits_at, shares_of
 
     folder, factors = study_and("phases", pair)
     if widen is not None and mining_width is not None:
@@ -89,18 +96,18 @@ def phases(
     _tell_files(found, target)
 
 
-def _tell_files(found: Phases, target: Path) -> None:
+def _tell_files(phases: Phases, target: Path) -> None:
     """The files, and what is proved of the mine after each pushback."""
     say(
         f"{target}: phases.csv, phase_benches.csv, phase_reserves.csv, phase_blocks.csv."
-        f" After each pushback {found.after}; in which order benches are dug is the scheduler's"
+        f" After each pushback {phases.after}; in which order benches are dug is the scheduler's"
     )
 
 
-def _show(found: Phases, table: pd.DataFrame) -> None:
+def _show(phases: Phases, table: pd.DataFrame) -> None:
     """The pushbacks on the screen, and all of them together."""
-    manifest = found.shells.study.manifest
-    metals, units = manifest["metals"], found.shells.study.model.units
+    manifest = phases.shells.study.manifest
+    metals, units = manifest["metals"], phases.shells.study.model.units
     places = {name: grade_places(table[f"grade_{name}"], 3, 3) for name in metals}
     total = _total_of(table, metals)
     rock = printed_scale([total["ore_t"], total["waste_t"]], units.weight)
@@ -119,6 +126,8 @@ def _show(found: Phases, table: pd.DataFrame) -> None:
         f"thinnest {units.length}",
         "at bench",
     )
+    tops = lengths([*table["top"], table["top"].max()])
+    bottoms = lengths([*table["bottom"], table["bottom"].min()])
     lines = [
         [
             str(row["pushback"]),
@@ -131,15 +140,17 @@ def _show(found: Phases, table: pd.DataFrame) -> None:
         ]
         for row, top, bottom, width, bench in zip(
             table.to_dict("records"),
-            *(lengths(table[name]) for name in ("top", "bottom", "width", "width_bench")),
+            tops,
+            bottoms,
+            *(lengths(table[name]) for name in ("width", "width_bench")),
         )
     ]
     lines.append(
         [
             "all",
             "",
-            length_text(table.top.max()),
-            length_text(table.bottom.min()),
+            tops[-1],
+            bottoms[-1],
             *_amounts(total, metals, places, (rock, money)),
             "",
             "",
@@ -195,19 +206,20 @@ def _amounts(
     ]
 
 
-def _tell_widened(found: Phases) -> None:
-    """What each widened pushback took in and left, and what `pit value` says of the mine after it, beside the two proved pits."""
+def _tell_widened(phases: Phases) -> None:
+    """What each widened pushback took in and left, and what `pit value` says of the mine after it,
+    beside the two proved pits."""
     from ..base.amounts import THOUSAND
     from ..plans.compare_words import money
     from ..plans.widening import judged
     from ..study.shells import Shells
-    from .shells import with_certificates
+    from .chosen_pits import with_certificates
 
-    shells, study = found.shells, found.shells.study
+    shells, study = phases.shells, phases.shells.study
     units = study.model.units
     factor = THOUSAND if study.verdict(THOUSAND) else shells.factors[-1]
     with_certificates(Shells(study, [factor]))
-    mines = list(found.mines or [])[:-1]
+    mines = list(phases.mines or [])[:-1]
     said = judged(study, mines, factor)
     tonnes, at = study.model.blocks["tonnes"].to_numpy(float), share_text(factor)
     rock = printed_scale([tonnes[shells.holds(len(shells) - 1)].sum()], units.weight)
@@ -218,31 +230,44 @@ def _tell_widened(found: Phases) -> None:
     for i, (mine, each) in enumerate(zip(mines, said)):
         more, less = mine & ~shells.holds(i), shells.holds(i) & ~mine
         say(
-            f"pushback {i + 1} widened to {found.mining_width:g} {units.length}: {counted(int(more.sum()), 'block')} of the next pit taken in ({rock.said(tonnes[more].sum())}), "
+            f"pushback {i + 1} widened to {phases.mining_width:g} {units.length}:"
+            f" {counted(int(more.sum()), 'block')} of the next pit taken in"
+            f" ({rock.said(tonnes[more].sum())}), "
             f"{counted(int(less.sum()), 'block')} left for it ({rock.said(tonnes[less].sum())})\n"
-            f"  pit value says {each.said}, worth {money(each.worth, study.currency)} at factor {at}; the pits beside it are worth {pits[i]} "
+            f"  pit value says {each.said}, worth {money(each.worth, study.currency)} at"
+            f" factor {at}; the pits beside it are worth {pits[i]} "
             f"(factor {share_text(shells.factors[i])}) and {pits[i + 1]} (factor {share_text(shells.factors[i + 1])})"
         )
 
 
-def _tell_narrow(found: Phases, benches: pd.DataFrame, file: Path) -> None:
-    """Names the worst benches of each pushback that are thinner than the mining width, and the file that has all."""
-    if found.mining_width is None:
+def _tell_narrow(phases: Phases, benches: pd.DataFrame, file: Path) -> None:
+    """Names the worst benches of each pushback that are thinner than the mining width, and the file
+    that has all."""
+    if phases.mining_width is None:
         return
-    thin, units = benches[benches.narrow_blocks > 0], found.shells.study.model.units
+    thin, units = benches[benches.narrow_blocks > 0], phases.shells.study.model.units
     if not len(thin):
-        say(f"every pushback is at least {found.mining_width:g} {units.length} wide on every bench")
+        say(
+            f"every pushback is at least {phases.mining_width:g} {units.length} wide on every bench"
+        )
     rock = printed_scale([benches.rock_t.sum()], units.weight)
     for (pushback, factor), part in thin.groupby(["pushback", "factor"]):
         narrow = (
-            f"pushback {pushback} (factor {factor:g}) {'is' if found.mines is None else 'stays'} thinner than {found.mining_width:g} {units.length} on {len(part)} "
-            f"{'bench' if len(part) == 1 else 'benches'}, {counted(int(part.narrow_blocks.sum()), 'block')}, {rock.said(part.narrow_t.sum())}:"
+            f"pushback {pushback} (factor {factor:g})"
+            f" {'is' if phases.mines is None else 'stays'} thinner than"
+            f" {phases.mining_width:g} {units.length} on {len(part)} "
+            f"{'bench' if len(part) == 1 else 'benches'},"
+            f" {counted(int(part.narrow_blocks.sum()), 'block')},"
+            f" {rock.said(part.narrow_t.sum())}:"
         )
         worst = part.sort_values(
             ["width", "narrow_blocks"], ascending=[True, False], kind="stable"
         ).head(_WORST)
         named = ", ".join(
-            f"{length_text(row.bench)} ({length_text(row.width)} {units.length}, {counted(int(row.narrow_blocks), 'block')})"
+            (
+                f"{length_text(row.bench)} ({length_text(row.width)} {units.length},"
+                f" {counted(int(row.narrow_blocks), 'block')})"
+            )
             for row in worst.itertuples()
         )
         warn(

@@ -1,4 +1,4 @@
-"""`pitplan plot` and `pitplan page`."""
+"""`pitplan plot` and `pitplan page`: pictures of pits, and a page in three dimensions."""
 from __future__ import annotations
 
 import re
@@ -9,14 +9,19 @@ import typer
 from ..base.errors import PlanError
 from ..base.units_shown import length_text
 from .console import COLUMN_VALUE, STUDY, app, described, results, say, shells_of
-from .schedule import last_of
+from .tables import warn_of_nothing
 
 if TYPE_CHECKING:
     from matplotlib.figure import Figure
 
     from ..plans.compare import Comparison
     from ..study.shells import Shells
-    from .chosen import DesignOptions
+    from .chosen_pits import DesignOptions
+
+_COLOURS = (
+    "What colours the blocks: shell, value (worth at factor 1), to (which process gets"
+    " it, where there are several), or a column of the table."
+)
 
 
 @app.command()
@@ -37,7 +42,7 @@ def plot(
     ),
     colour: str = typer.Option(
         "shell",
-        help="What colours the blocks: shell, value (worth at factor 1), to (which process gets it, where there are several), or a column of the table.",
+        help=_COLOURS,
     ),
     pit: Optional[float] = typer.Option(
         None,
@@ -81,6 +86,7 @@ def plot(
         path = results(shells.study) / (name + (ending if name != "pit-by-pit" else "") + ".png")
         pictures.save(figure, path)
         say(str(path))
+    warn_of_nothing(shells)
 
 
 def _named(what: str, at: float) -> str:
@@ -93,7 +99,7 @@ def _graph_of(shells: Shells, rates: dict[str, Any]) -> Figure:
     from ..views import pictures
 
     study = shells.study
-    table = shells.table(1000, **rates)
+    table = shells.table(**rates)
     return pictures.pit_by_pit(table, study.currency, weight=study.model.units.weight)
 
 
@@ -104,7 +110,7 @@ def _compared(
 
     Raises PlanError where two are.
     """
-    from .chosen import beside, design_of
+    from .chosen_pits import beside, design_of
 
     if options.file and options.column:
         raise PlanError("a design is given by one of --design FILE and --column NAME")
@@ -164,14 +170,15 @@ def page(
     """Write one HTML file with pits in three dimensions, sections, plans and tables: pits by
     factor, pushbacks, a design beside the best pit, a schedule by years. It needs no network."""
     from ..views import page as pages
-    from .chosen import DesignOptions, pushbacks_at
+    from .chosen_pits import DesignOptions, last_schedule, pushbacks_at
 
     shells, rates = shells_of(folder)
     cut = pushbacks_at(folder, phases) if phases else None
     options = DesignOptions(file=design, layers=layer, column=column, value=value)
     found = _compared(folder, shells, options, factor)
     path = results(shells.study) / "pits.html"
-    years = last_of(folder) if is_schedule else None
-    views = pages.views_of(shells, shells.table(1000, **rates), cut, found, years)
+    years = last_schedule(folder) if is_schedule else None
+    views = pages.views_of(shells, shells.table(**rates), cut, found, years)
     pages.write_views(path, shells.study, views, pages.heading(shells, title))
     say(f"{path}: {path.stat().st_size / 1e6:.1f} MB, opens in any browser")
+    warn_of_nothing(shells)

@@ -1,4 +1,4 @@
-"""`pitplan report`."""
+"""`pitplan report`: a study as PDF or as a workbook."""
 from __future__ import annotations
 
 from pathlib import Path
@@ -8,8 +8,7 @@ import typer
 
 from ..base.errors import PlanError
 from ..base.next_command import command
-from ..study import older
-from .console import STUDY, app, described, err, results, say, shells_of, warn
+from .console import STUDY, app, described, err, results, say, shells_of, show_schedule, warn
 
 if TYPE_CHECKING:
     from ..schedule.plan import Schedule
@@ -37,25 +36,28 @@ def report(
         None, show_default=False, help="Of the cover. Default: the table's name."
     ),
 ) -> None:
-    """Write a report: what was asked for, tables, pictures, the plan by years where there is one, slopes with their errors, what is proved and what isn't, digests. As PDF and as a workbook, unless one of them is asked for."""
+    """Write a report: what was asked for, tables, pictures, the plan by years where there is one,
+    slopes with their errors, what is proved and what isn't, digests. As PDF and as a workbook,
+    unless one of them is asked for."""
     from ..views.report import gathered
-    from .chosen import pushbacks_at
+    from .chosen_pits import pushbacks_at
 
     plan = described(folder)
     shells, _ = shells_of(folder)
     cut = pushbacks_at(folder, phases) if phases else None
-    with err.status("the report is gathered"):
+    with err.long_step("the report is gathered"):
         found = gathered(shells, plan, cut, title, _years_of(plan, shells))
-        target = results(shells.study)
-        for name, is_wanted in (("pdf", pdf), ("xlsx", xlsx)):
-            if is_wanted or not (pdf or xlsx):
+    target = results(shells.study)
+    for name, is_wanted in (("pdf", pdf), ("xlsx", xlsx)):
+        if is_wanted or not (pdf or xlsx):
+            with err.long_step(f"report.{name} is written"):
                 path = _written(name, found, target / f"report.{name}")
-                say(f"{path}: {path.stat().st_size / 1e6:.1f} MB")
+            say(f"{path}: {path.stat().st_size / 1e6:.1f} MB")
 
 
 def _years_of(plan: StudyFile, shells: Shells) -> Schedule | None:
-    """The plan by years that `schedule` found last; None where there is none by study.toml as it stands, which is told where there
-    is another one."""
+    """The plan by years that `schedule` found last; None where there is none by study.toml as it
+    stands, which is told where there is another one."""
     if not (shells.study.folder / "runs" / "schedule").is_dir():
         return None
     from ..schedule.plan import Schedule  # needs Numba
@@ -67,11 +69,11 @@ def _years_of(plan: StudyFile, shells: Shells) -> Schedule | None:
             f" those of study.toml now\n  try: {command('schedule', shells.study.named)}, and report again"
         )
     else:
-        older.watch_schedule(found.digest)
+        show_schedule(shells.study, found.digest)
     return found
 
 
-def _written(kind: str, found: Report, path: Path) -> Path:
+def _written(kind: str, report: Report, path: Path) -> Path:
     """Writes a report as pdf or xlsx.
 
     Raises
@@ -83,10 +85,10 @@ def _written(kind: str, found: Report, path: Path) -> Path:
         if kind == "pdf":
             from ..views.report import pdf
 
-            return pdf.write(found, path)
+            return pdf.write(report, path)
         from ..views.report import xlsx
 
-        return xlsx.write(found, path)
+        return xlsx.write(report, path)
     except ImportError as error:
         name = {"pdf": "python3-reportlab", "xlsx": "python3-openpyxl"}[kind]
         raise PlanError(

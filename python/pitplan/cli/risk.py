@@ -2,7 +2,6 @@
 from __future__ import annotations
 
 import sys
-import time
 from collections.abc import Iterator
 from contextlib import contextmanager
 from pathlib import Path
@@ -10,12 +9,12 @@ from typing import TYPE_CHECKING, Optional
 
 import typer
 
-from ..base import events
 from ..base.errors import PlanError
 from ..base.next_command import command
 from ..base.units_shown import counted, printed_scale
-from .tables import print_rock_of_classes
 from .console import (
+    SCHEDULES_GAP,
+    SCHEDULES_MINUTES,
     STUDY,
     app,
     described,
@@ -25,20 +24,21 @@ from .console import (
     results,
     say,
     warn,
-    warn_of_room,
 )
+from .tables import print_rock_of_classes
+from .tasks_here import do_all, tell_slurm
 
 if TYPE_CHECKING:
     import pandas as pd
 
     from ..plans.risk import Risk, Setup
-    from ..plans.task_line import Task
     from ..schedule.plan import Schedule
     from ..study.study import Study
-    from ..tasks.local import Heard
 
 _ALONE = "1"  # the factors where none are said
-_NEAR = 0.02  # of the table's mean grade: by how much that of realisations may differ untold
+_MEAN_TOLERANCE = (
+    0.02  # of the table's mean grade: by how much that of realisations may differ untold
+)
 
 
 @app.command()
@@ -63,12 +63,8 @@ def risk(
             " a bound of the schedules of that realisation, in place of pits."
         ),
     ),
-    gap: float = typer.Option(
-        0.5, "--gap", min=0.0, help="With --schedule: end each within so many percent of its bound."
-    ),
-    minutes: float = typer.Option(
-        5.0, "--minutes", min=0.0, help="With --schedule: end each after so many minutes."
-    ),
+    gap: float = SCHEDULES_GAP,
+    minutes: float = SCHEDULES_MINUTES,
     later: bool = typer.Option(
         False,
         "--later",
@@ -82,7 +78,7 @@ def risk(
 ) -> None:
     """Find the proved pit of each realisation of the grades, and how likely each block is. Goes on
     where it was stopped."""
-    from ..plans.risk import tasks
+    from ..plans.risk import risk_tasks
 
     study = open_study(folder)
     setup = _asked_for(study, folder, realisations, factors, metal)
@@ -97,18 +93,19 @@ def risk(
             f" {command('submit', folder)}, and {command('risk', folder)} for the tables"
         )
         return
-    tell_slurm(study, tasks(study))
-    do_all(study, tasks(study), workers)
+    tell_slurm(study, risk_tasks(study))
+    do_all(study, risk_tasks(study), workers)
     _show_pits(study)
 
 
 def _show_pits(study: Study) -> None:
     """The tables, the pictures and the screen, of the pits that are there."""
+    from ..base.amounts import THOUSAND
     from ..plans.risk import Risk
 
     with _doing("the pits are read and added up again"):
         found = Risk(study)
-    factor = 1000 if 1000 in found.factors else found.factors[-1]
+    factor = THOUSAND if THOUSAND in found.factors else found.factors[-1]
     with _doing("the pits of each likelihood are priced, and all is written"):
         pits = _write_risk(found, factor)
     _print_risk(found, factor, pits)
@@ -145,13 +142,13 @@ def _risk_of_schedule(
     workers: Optional[int],
 ) -> None:
     """The study's schedule under each realisation; `limits` are a gap in percent and minutes."""
-    from ..schedule import realised
-    from .schedule import last_of
+    from ..schedule import realisations
+    from .chosen_pits import last_schedule
 
     plan = described(folder)
-    found = last_of(folder)
-    realised.prepare(study, found, plan.values["schedule"], plan.rates, *limits)
-    tasks = realised.tasks(study)
+    found = last_schedule(folder)
+    realisations.prepare(study, found, plan.values["schedule"], plan.rates, *limits)
+    tasks = realisations.realised_tasks(study)
     if later:
         again = command("risk", folder, "--schedule")
         say(
@@ -165,10 +162,10 @@ def _risk_of_schedule(
 
 def _write_risk_of_schedule(study: Study, schedule: Schedule) -> None:
     """The table by realisation, and its spread on the screen."""
-    from ..schedule import realised
+    from ..schedule import realisations
     from ..table.spreadsheets import write_table
 
-    found = realised.table(study)
+    found = realisations.table(study)
     write_table(found, results(study) / "risk_schedule.csv")
     money = printed_scale(found[["npv", "bound"]], study.currency)
     shares = {"least": 0.0, "p10": 0.1, "p50": 0.5, "p90": 0.9, "most": 1.0}
@@ -189,7 +186,7 @@ def _write_risk_of_schedule(study: Study, schedule: Schedule) -> None:
         f"npv under {counted(len(found), 'realisation')}, in {money.unit}",
         ("of each realisation", *shares, "mean"),
         lines,
-        words=1,
+        word_columns=1,
     )
     say(
         f"by the table's own grades the schedule is worth {money.said(float(schedule.npv))}; not"
@@ -237,9 +234,8 @@ def _refuse_another(setup: Setup, factors: str, metal: Optional[str], folder: Pa
         metal is None or grades.get(metal) == setup.column
     ):
         return
-    given, name = ",".join(map(spelled_factor, setup.factors)), next(
-        name for name, grade in grades.items() if grade == setup.column
-    )
+    given = ",".join(map(spelled_factor, setup.factors))
+    name = next(name for name, grade in grades.items() if grade == setup.column)
     more = [
         *(["--factors", factors] if factors != _ALONE else []),
         *(["--metal", metal] if metal is not None else []),
@@ -265,7 +261,7 @@ def _tell_means(study: Study, setup: Setup) -> None:
             f" less than {NOT_ALIKE:g}); a realisation varies around the estimate\n  try: its rows"
             " in the order of the table's"
         )
-    if not abs(found.share) > _NEAR:
+    if not abs(found.share) > _MEAN_TOLERANCE:
         return
     by = f"{abs(found.share):.1%} " if found.table > 0 else ""
     warn(
@@ -277,130 +273,52 @@ def _tell_means(study: Study, setup: Setup) -> None:
     )
 
 
-def tell_slurm(study: Study, tasks: list[Task]) -> None:
-    """Says where what this command will do waits or runs in Slurm too."""
-    from ..base.errors import MachineError
-    from ..tasks.engines import in_slurm
-    from ..tasks.task import Tasks
-
-    try:
-        in_hand = in_slurm(study)
-    except MachineError:  # `status` says so
-        return
-    count = sum(
-        task in in_hand and in_hand[task].state != ""
-        for task in Tasks(study.folder, study.given).left(dict.fromkeys(tasks))
-    )
-    if count:
-        warn(
-            f"{count:,} of these tasks {'waits or runs' if count == 1 else 'wait or run'} in Slurm,"
-            f" and {'is' if count == 1 else 'are'} done here too\n  try: ctrl-C, and the same"
-            f" command once {command('status', study.named)} says that all is done"
-        )
-
-
-def do_all(study: Study, tasks: list[Task], workers: Optional[int]) -> None:
-    """Does what isn't done yet of some tasks, on this machine, and shows how far that is."""
-    from ..tasks.local import processes_for, run_local
-    from ..tasks.task import Tasks
-
-    left = Tasks(study.folder, study.program).left(tasks)
-    if not left:
-        return
-    count = processes_for(study, workers)
-    warn_of_room(workers, count)
-    if not err.is_terminal:
-        deaths = run_local(study, left, count, _heard(_lines()))
-    else:
-        from rich.progress import (
-            BarColumn,
-            MofNCompleteColumn,
-            Progress,
-            TextColumn,
-            TimeRemainingColumn,
-        )
-
-        with Progress(
-            TextColumn("{task.description}"),
-            BarColumn(),
-            MofNCompleteColumn(),
-            TimeRemainingColumn(),
-            console=err,
-            transient=True,
-        ) as bars:
-            bar = bars.add_task(f"tasks, {count} at a time", total=len(left))
-            deaths = run_local(
-                study, left, count, _heard(lambda task, done, of: bars.update(bar, completed=done))
-            )
-    if deaths:
-        warn(f"a process was ended {deaths} times, and started again: was memory short?")
-
-
-def _heard(listener: Heard) -> Heard:
-    """A listener whose tasks are events, too."""
-
-    def progress(task: Task, done: int, of: int) -> None:
-        events.event("task", task=str(task), done=done, of=of)
-        listener(task, done, of)
-
-    return progress
-
-
-def _lines() -> Heard:
-    """A line for each task that is done, for logs."""
-    began = time.time()
-    return lambda task, done, of: print(
-        f"{task} done: {done} of {of} after {time.time() - began:.0f} s",
-        file=sys.stderr,
-        flush=True,
-    )
-
-
-def _write_risk(found: Risk, factor: int) -> pd.DataFrame:
+def _write_risk(risk: Risk, factor: int) -> pd.DataFrame:
     """The tables, and a section and a page by likelihood at a factor; gives `Risk.pits` at it."""
     from ..table.spreadsheets import write_table
     from ..views import page
     from ..views.pictures import save
     from ..views.risk_pictures import section
 
-    folder = results(found.study)
-    write_table(found.runs, folder / "risk_runs.csv")
-    write_table(found.table(), folder / "risk.csv")
-    write_table(found.of_blocks(), folder / "likelihood.csv")
-    pits = found.pits(factor)
+    folder = results(risk.study)
+    write_table(risk.runs, folder / "risk_runs.csv")
+    write_table(risk.table(), folder / "risk.csv")
+    write_table(risk.of_blocks(), folder / "likelihood.csv")
+    pits = risk.pits(factor)
     write_table(pits, folder / "likelihood_pits.csv")
-    save(section(found, factor), folder / "likelihood.png")
-    page.write_likelihood(found, factor, folder / "likelihood.html", pits)
+    save(section(risk, factor), folder / "likelihood.png")
+    page.write_likelihood(risk, factor, folder / "likelihood.html", pits)
     return pits
 
 
-def _warn_of_edges(found: Risk) -> None:
+def _warn_of_edges(risk: Risk) -> None:
     """Says of the smallest factor at which realisations' pits touch the model's side or reach its
     floor, of how many they are."""
     from ..plans.risk import spelled_factor
     from ..study.edges import FLOOR, SIDE
 
-    for counts, (what, hint) in ((found.side, SIDE), (found.floor, FLOOR)):
-        at = next((i for i in range(len(found.factors)) if counts[i].any()), None)
+    for counts, (what, hint) in ((risk.side, SIDE), (risk.floor, FLOOR)):
+        at = next((i for i in range(len(risk.factors)) if counts[i].any()), None)
         if at is not None:
             most = int(counts[at].max())
             warn(
-                f"at factor {spelled_factor(found.factors[at])} the pit of"
-                f" {int((counts[at] > 0).sum()):,} of {found.count:,} realisations"
+                f"at factor {spelled_factor(risk.factors[at])} the pit of"
+                f" {int((counts[at] > 0).sum()):,} of {risk.count:,} realisations"
                 f" {what.format(f'up to {most:,} blocks there')}\n  try: {hint}"
             )
 
 
-def _print_risk(found: Risk, factor: int, pits: pd.DataFrame) -> None:
+def _print_risk(risk: Risk, factor: int, pits: pd.DataFrame) -> None:
     """The spread over the realisations on the screen, and the pit of a likelihood that is worth
     most on the mean."""
+    from ..base.amounts import THOUSAND
     from ..plans.risk import spelled_factor
 
-    table = found.table()
+    table = risk.table()
     worths = [f"worth_{name}" for name in ("p10", "p50", "p90", "mean")]
     rocks = [f"rock_t_{name}" for name in ("p10", "p50", "p90")]
-    money = printed_scale(table[worths], found.study.currency)
-    rock = printed_scale(table[rocks], found.study.model.units.weight)
+    money = printed_scale(table[worths], risk.study.currency)
+    rock = printed_scale(table[rocks], risk.study.model.units.weight)
     lines = [
         (
             f"{row['factor']:.3f}",
@@ -410,17 +328,17 @@ def _print_risk(found: Risk, factor: int, pits: pd.DataFrame) -> None:
         for row in table.to_dict("records")
     ]
     print_columns(
-        f"{found.count} realisations, {money.unit} and {rock.unit}; a tenth of them lies below p10",
+        f"{risk.count} realisations, {money.unit} and {rock.unit}; a tenth of them lies below p10",
         ("factor", "worth p10", "p50", "p90", "mean", "rock p10", "p50", "p90"),
         lines,
     )
     print_rock_of_classes(
-        found.study,
+        risk.study,
         pits,
         {"likelihood": [f"{share:.0%}" for share in pits.likelihood]},
         f"rock of each pit by likelihood at factor {spelled_factor(factor)}, by resource class",
     )
-    if found.factors != [1000]:
+    if risk.factors != [THOUSAND]:
         say("each worth is at its factor's own price")
     most = pits.worth_mean.idxmax()
     say(
@@ -430,6 +348,6 @@ def _print_risk(found: Risk, factor: int, pits: pd.DataFrame) -> None:
         f" {money.text(pits.best_mean[most])}"
     )
     say(
-        f"{results(found.study)}: risk.csv, risk_runs.csv, likelihood.csv, likelihood_pits.csv,"
+        f"{results(risk.study)}: risk.csv, risk_runs.csv, likelihood.csv, likelihood_pits.csv,"
         " likelihood.png, likelihood.html"
     )

@@ -1,11 +1,11 @@
-"""`pitplan schedule`."""
+"""`pitplan schedule`: a plan by years, beside a bound of all such plans."""
 from __future__ import annotations
 
 import json
 import math
 import sys
 import time
-from collections.abc import Callable, Iterator, Mapping
+from collections.abc import Iterator, Mapping
 from contextlib import contextmanager
 from pathlib import Path
 from typing import TYPE_CHECKING, Any, Optional
@@ -17,7 +17,6 @@ from ..base.errors import PlanError
 from ..base.files import whole_file
 from ..base.next_command import command
 from ..base.units_shown import counted, printed_scale
-from ..study import older
 from .console import (
     STUDY,
     app,
@@ -27,6 +26,7 @@ from .console import (
     results,
     say,
     shells_of,
+    show_schedule,
     warn,
 )
 
@@ -34,7 +34,8 @@ if TYPE_CHECKING:
     import pandas as pd
 
     from ..schedule.plan import Schedule
-    from ..schedule.search import Found, Told
+    from ..schedule.search import Found, Listener
+    from ..schedule.search_ends import Limits
     from ..schedule.tables import Tables
     from ..study.shells import Shells
 
@@ -56,62 +57,32 @@ def schedule(
         None,
         "--mining-width",
         min=0.0,
-        help="The least width that machines need, in the unit of the coordinates: how much rock of each year lies where it is less wide.",
+        help=(
+            "The least width that machines need, in the unit of the coordinates: how much rock"
+            " of each year lies where it is less wide."
+        ),
     ),
 ) -> None:
-    """Plan by years: a schedule of the best pit, its net present value, and a proved bound of all schedules. Goes on where it was stopped."""
+    """Plan by years: a schedule of the best pit, its net present value, and a proved bound of all
+    schedules. Goes on where it was stopped."""
     from ..schedule.plan import Schedule
+    from ..schedule.search_ends import Limits
     from ..schedule.tables import Tables
 
     plan = described(folder)
     shells, rates = shells_of(folder)
-    values, limits = plan.values["schedule"], (gap / _PERCENT, minutes * _MINUTE)
-    with _shown(gap / _PERCENT) as listener, _stopped(shells, limits) as heard:
-        found = Schedule.of(shells, values, rates, limits, heard(listener))
-    _set_aside(found)
+    values, limits = plan.values["schedule"], Limits(gap / _PERCENT, minutes * _MINUTE)
+    with _shown(gap / _PERCENT) as listener, _stopped(shells, limits):
+        found = Schedule.of(shells, values, rates, limits, listener)
+    show_schedule(shells.study, found.digest)
     tables = Tables(found, mining_width)
     years = tables.years()
     _write_facts(found.shells, found.facts)
-    _write_tables(found, tables, years)
+    _write_tables(found, tables, years, plan.keys.encoding)
     _draw(found, years)
     _write_page(found, years)
     _print_years(found, years)
     _tell(found, years)
-
-
-def last_of(folder: Path) -> Schedule:
-    """The schedule that was found last by the terms of study.toml.
-
-    Raises PlanError where none was.
-    """
-    from ..schedule.plan import Schedule
-
-    plan = described(folder)
-    shells, rates = shells_of(folder)
-    found = Schedule.last(shells, plan.values["schedule"], rates)
-    if found is None:
-        raise PlanError(
-            "no schedule by the terms of study.toml has been found",
-            try_this=command("schedule", folder),
-        )
-    older.watch_schedule(found.digest)
-    return found
-
-
-def _set_aside(found: Schedule) -> None:
-    """Puts exports, reports and pictures of the schedule before out of the way, and says so."""
-    folder = results(found.shells.study)
-    moved, changed = older.set_schedules_aside(folder, found.digest)
-    older.watch_schedule(found.digest)
-    if moved:
-        say(
-            f"{folder / older.OLDER} has what was written of the schedule before: {', '.join(moved)}"
-        )
-    for name in changed:
-        warn(
-            f"{folder / name} is of the schedule before; it was changed since it was written, so it"
-            " stays there"
-        )
 
 
 def _words(found: Found) -> str:
@@ -122,26 +93,20 @@ def _words(found: Found) -> str:
 
 
 @contextmanager
-def _stopped(shells: Shells, limits: tuple[float, float]) -> Iterator[Callable[[Told], Told]]:
-    """Hears how far a search is, and after ctrl-C says so in words and in schedule.json."""
-    from ..schedule.ends import STOPPED, End
-    from ..schedule.search import Found
-
-    last = [Found()]
-
-    def heard(listener: Told) -> Told:
-        def both(found: Found, what: str) -> None:
-            last[0] = found
-            listener(found, what)
-
-        return both
+def _stopped(shells: Shells, limits: Limits) -> Iterator[None]:
+    """After ctrl-C says how far the search is and, where it has a schedule, writes schedule.json;
+    then what shows another schedule is put out of the way."""
+    from ..schedule.search_ends import STOPPED, End, SearchStopped
 
     try:
-        yield heard
-    except KeyboardInterrupt:
+        yield
+    except SearchStopped as stopped:
         end = End(STOPPED, *limits)
-        _write_facts(shells, last[0].facts | end.facts)
-        warn(f"{end.words}: {_words(last[0])}")
+        warn(f"{end.words}: {_words(stopped.found)}")
+        if stopped.digest:
+            warn(f"its table: {command('schedule', shells.study.named, '--minutes', '0')}")
+            show_schedule(shells.study, stopped.digest)
+            _write_facts(shells, stopped.found.facts | end.facts)
         raise
 
 
@@ -152,7 +117,7 @@ def _write_facts(shells: Shells, facts: Mapping[str, Any]) -> None:
 
 
 @contextmanager
-def _shown(wanted: float) -> Iterator[Told]:
+def _shown(wanted: float) -> Iterator[Listener]:
     """Shows how far a search is: on a terminal a line that changes, else a line for each step."""
     began, before = time.time(), [""]
 
@@ -190,12 +155,15 @@ def _shown(wanted: float) -> Iterator[Told]:
         yield drawn
 
 
-def _write_tables(found: Schedule, tables: Tables, years: pd.DataFrame) -> None:
-    """By period, by bench, and the planner's own table with the year of each row, or the period where a year has several, and where it goes."""
+def _write_tables(
+    schedule: Schedule, tables: Tables, years: pd.DataFrame, encoding: str | None
+) -> None:
+    """By period, by bench, and the planner's own table, in its own encoding, with the year of each
+    row, or the period where a year has several, and where it goes."""
     from ..table.spreadsheets import write_table
     from ..views.export import table_back
 
-    study = found.shells.study
+    study = schedule.shells.study
     folder = results(study)
     write_table(years, folder / "schedule.csv")
     write_table(tables.benches(), folder / "schedule_benches.csv")
@@ -203,9 +171,10 @@ def _write_tables(found: Schedule, tables: Tables, years: pd.DataFrame) -> None:
         return
     path = folder / f"schedule_{study.table.name}"
     try:
-        has_parts = found.production.terms.per_year > 1
-        name, numbers = ("period", found.periods) if has_parts else ("year", found.years)
-        rows = table_back.write_columns(study, {name: numbers, "sent": found.ways}, path)
+        has_parts = schedule.production.terms.per_year > 1
+        name, numbers = ("period", schedule.periods) if has_parts else ("year", schedule.years)
+        more = {name: numbers, "sent": schedule.ways}
+        rows = table_back.write_columns(study, more, path, encoding)
         say(
             f"{path}: the table with two columns more, {name} and sent, that"
             f" {rows:,} of its rows {'has' if rows == 1 else 'have'}"
@@ -214,47 +183,47 @@ def _write_tables(found: Schedule, tables: Tables, years: pd.DataFrame) -> None:
         warn(str(error))
 
 
-def _draw(found: Schedule, years: pd.DataFrame) -> None:
+def _draw(schedule: Schedule, years: pd.DataFrame) -> None:
     """The years as bars, and a bench and a section by year."""
     from ..views import pictures, schedule_pictures
 
-    folder = results(found.shells.study)
-    toe, row = schedule_pictures.middle_of(found)
+    folder = results(schedule.shells.study)
+    toe, row = schedule_pictures.middle_of(schedule)
     for name, figure in (
-        ("schedule-years", schedule_pictures.by_year(found, years)),
-        (f"schedule-plan-{toe:.10g}", schedule_pictures.plan(found, toe)),
-        (f"schedule-section-row-{row}", schedule_pictures.section(found, row)),
+        ("schedule-years", schedule_pictures.by_year(schedule, years)),
+        (f"schedule-plan-{toe:.10g}", schedule_pictures.plan(schedule, toe)),
+        (f"schedule-section-row-{row}", schedule_pictures.section(schedule, row)),
     ):
         path = folder / f"{name}.png"
         pictures.save(figure, path)
         say(str(path))
 
 
-def _write_page(found: Schedule, years: pd.DataFrame) -> None:
+def _write_page(schedule: Schedule, years: pd.DataFrame) -> None:
     """The mine at the end of each period, as a page."""
     from ..views import page, schedule_view
 
-    study = found.shells.study
+    study = schedule.shells.study
     path = results(study) / "schedule.html"
     try:
-        view = schedule_view.schedule(found, years)
+        view = schedule_view.schedule(schedule, years)
         page.write_views(path, study, [view], f"{study.model.name}: {view.name.lower()}")
         say(f"{path}: {path.stat().st_size / 1e6:.1f} MB, opens in any browser")
     except PlanError as error:  # as where three.js isn't there
         warn(str(error))
 
 
-def _print_years(found: Schedule, years: pd.DataFrame) -> None:
+def _print_years(schedule: Schedule, years: pd.DataFrame) -> None:
     """The schedule on the screen; all of its columns are in the file."""
     from ..schedule.tables import binds_text
 
-    study = found.shells.study
+    study = schedule.shells.study
     metals, has_width = study.manifest["metals"], "narrow_share" in years
     processes = study.priced.process_names
     rock = printed_scale(years["rock_t"], study.model.units.weight)
     money = printed_scale(years[["cash_flow", "npv"]], study.currency)
     names = (
-        "period" if found.production.terms.per_year > 1 else "year",
+        "period" if schedule.production.terms.per_year > 1 else "year",
         f"rock {rock.unit}",
         f"ore {rock.unit}",
         "strip",
@@ -294,52 +263,68 @@ def _print_years(found: Schedule, years: pd.DataFrame) -> None:
     print_columns(f"by year, in {money.unit} at the full price", names, lines)
 
 
-def _tell(found: Schedule, years: pd.DataFrame) -> None:
+def _tell(schedule: Schedule, years: pd.DataFrame) -> None:
     """What the schedule is worth, how far it is below the bound, why the search ended, and what to
     look at."""
-    terms, currency = found.production.terms, found.shells.study.currency
+    terms, currency = schedule.production.terms, schedule.shells.study.currency
     word = "period" if terms.per_year > 1 else "year"
     say(
-        f"pit schedule says: feasible, {counted(found.count, 'block')}, net present value {currency}"
-        f" {math.floor(found.npv + found.fixed):,}"
+        f"pit schedule says: feasible, {counted(schedule.count, 'block')}, net present value {currency}"
+        f" {math.floor(schedule.npv + schedule.fixed):,}"
     )
     if terms.fixed_cost:
         say(
             f"less the fixed costs of the {counted((years['fixed_cost'] > 0).sum(), word)} in which"
-            f" rock is dug: {currency} {math.floor(found.npv):,}"
+            f" rock is dug: {currency} {math.floor(schedule.npv):,}"
         )
     say(
-        f"by these rates and slopes no schedule brings more than {currency}"
-        f" {math.ceil(found.bound):,}, which pit {'bound' if found.production.is_plain else 'check'}"
-        " has accepted: this one is at most"
-        f" {found.gap_text} below the best"
+        f"by these terms{_by_ways(terms.is_by_year)} no schedule brings more than {currency}"
+        f" {math.ceil(schedule.bound):,}, which pit bound has accepted: this one is at most"
+        f" {schedule.gap_text} below the best"
     )
-    if found.end:
-        say(found.end.words)
-    each = found.units_a_period
-    if found.gap > _WIDE and each < _FEW:
+    if schedule.end:
+        say(schedule.end.words)
+    each = schedule.units_a_period
+    if schedule.gap > _WIDE and each < _FEW:
         say(
             f"a {word} digs {each:,.1f} {'panels' if terms.panel > 1 else 'blocks'} on the mean: the"
             " bound may dig them in parts, which no schedule does, so that more minutes may not"
             " narrow this gap"
         )
-    for line in _counted_here(found):
+    for line in _counted_here(schedule):
         say(line)
-    _warn_of_rest(found, years)
+    _warn_of_rest(schedule, years)
 
 
-def _counted_here(found: Schedule) -> Iterator[str]:
+def _by_ways(is_by_year: bool) -> str:
+    """Of which choice of ways the bound is."""
+    if is_by_year:
+        return ", each block by whichever way,"
+    return ", each block where it is worth most at the full price,"
+
+
+def _counted_here(schedule: Schedule) -> Iterator[str]:
     """What `pit` doesn't count, and what it counts otherwise."""
-    terms = found.production.terms
+    from ..base.amounts import THOUSAND
+
+    terms = schedule.production.terms
     if terms.is_by_year:
-        milled = found.said.count - found.count
+        priced, dug = schedule.shells.study.priced, schedule.periods > 0
+        milled = int((schedule.sent & dug).sum())
+        there = "a process" if priced.process_names else "the mill"
         yield (
-            f"{milled:,} of the blocks {'goes' if milled == 1 else 'go'} to the mill, each in the"
-            " year in which it is dug; pit schedule counts these twice, as dug and as milled"
+            f"{milled:,} of the blocks {'goes' if milled == 1 else 'go'} to {there}, each in the"
+            " year in which it is dug"
         )
+        if priced.process_names:
+            other = int((schedule.sent & dug & (schedule.goes != priced.way_of(THOUSAND))).sum())
+            yield (
+                f"{other:,} of them {'goes' if other == 1 else 'go'} to another process than at the"
+                " full price; the bound is of every such choice"
+            )
     if terms.pushbacks:
         yield (
-            f"the order of the {len(terms.pushbacks) + 1} pushbacks is counted by pitplan, not by pit"
+            f"the order of the {len(terms.pushbacks) + 1} pushbacks is checked by pitplan, not by pit"
         )
     if terms.fixed_cost:
         yield (
@@ -348,15 +333,15 @@ def _counted_here(found: Schedule) -> Iterator[str]:
         )
 
 
-def _warn_of_rest(found: Schedule, years: pd.DataFrame) -> None:
+def _warn_of_rest(schedule: Schedule, years: pd.DataFrame) -> None:
     """Says what of the pit stays in the ground."""
-    study, (blocks, tonnes, worth) = found.shells.study, found.left()
-    if not blocks:
+    study, left = schedule.shells.study, schedule.left()
+    if not left.blocks:
         return
     rock = printed_scale(years["rock_t"], study.model.units.weight)
-    is_full = (years["rock_t"] > 0).sum() == found.production.terms.periods
+    is_full = (years["rock_t"] > 0).sum() == schedule.production.terms.periods
     warn(
-        f"{blocks:,} {'block of the pit stays' if blocks == 1 else 'blocks of the pit stay'}"
-        f" in the ground, {rock.said(tonnes)} worth {study.currency} {worth:,.0f} undiscounted"
+        f"{left.blocks:,} {'block of the pit stays' if left.blocks == 1 else 'blocks of the pit stay'}"
+        f" in the ground, {rock.said(left.tonnes)} worth {study.currency} {left.worth:,.0f} undiscounted"
         + ("\n  try: more years in [schedule]" if is_full else "")
     )

@@ -1,4 +1,4 @@
-"""`pitplan schema`."""
+"""`pitplan schema`: the JSON Schema of study.toml, for editors."""
 from __future__ import annotations
 
 import json

@@ -1,4 +1,4 @@
-"""`pitplan submit` and `pitplan status`."""
+"""`pitplan submit` and `pitplan status`: pits as tasks of a cluster, and how far they are."""
 from __future__ import annotations
 
 import shlex
@@ -9,13 +9,14 @@ from typing import TYPE_CHECKING, Optional
 import typer
 from ..base.errors import MachineError
 from ..base.next_command import command
-from ..base.units_shown import counted
+from ..base.units_shown import counted, duration_text
 from .console import STUDY, app, described, open_study, say, warn
+from .tasks_here import do_all
 
 if TYPE_CHECKING:
     from ..plans.task_line import Task
     from ..study.study import Study
-    from ..tasks.engines import Handed
+    from ..tasks.clusters import Handed
 
 _SHOWN = 5  # failures that are told
 
@@ -50,8 +51,9 @@ def submit(
         help="Hand in too what seems to run on other machines, as where one of them died.",
     ),
 ) -> None:
-    """Hand in what isn't done yet of shells, realisations and what-ifs. What failed is handed in again, and nothing else."""
-    from ..tasks.engines import Limits
+    """Hand in what isn't done yet of shells, realisations and what-ifs. What failed is handed in
+    again, and nothing else."""
+    from ..tasks.clusters import Limits
 
     study = open_study(folder)
     tasks = _to_hand_in(study, described(folder).factors, again)
@@ -60,18 +62,20 @@ def submit(
     elif dry:
         _show(study, tasks, engine, Limits(minutes, at_once))
     elif engine is _Engine.LOCAL:
-        from .risk import do_all
-
         do_all(study, tasks, workers)
         say(f"{counted(len(tasks), 'task')} done")
     elif engine is _Engine.SLURM:
-        from ..tasks.engines import submit_slurm
+        from ..tasks.clusters import submit_slurm
 
         say(
-            f"{counted(len(tasks), 'task')} handed in as job {', '.join(submit_slurm(study, tasks, Limits(minutes, at_once)))}; then: {command('status', folder)}"
+            (
+                f"{counted(len(tasks), 'task')} handed in as job"
+                f" {', '.join(submit_slurm(study, tasks, Limits(minutes, at_once)))}; then:"
+                f" {command('status', folder)}"
+            )
         )
     else:
-        from ..tasks.engines import snakemake_lines, write_snakefile
+        from ..tasks.clusters import snakemake_lines, write_snakefile
 
         written = write_snakefile(study, tasks)
         say(
@@ -82,10 +86,11 @@ def submit(
 
 
 def _to_hand_in(study: Study, factors: list[int], again: bool) -> list[Task]:
-    """The tasks that are neither done nor running nor waiting; with `again` also those that seem to run on other machines."""
+    """The tasks that are neither done nor running nor waiting; with `again` also those that seem to
+    run on other machines."""
     from ..base.files import host
     from ..tasks.status import FAILED, RUNNING, TO_DO, states
-    from ..tasks.task import wanted
+    from ..tasks.tasks import wanted
 
     found = states(study, wanted(study, factors))
     elsewhere = [
@@ -97,7 +102,11 @@ def _to_hand_in(study: Study, factors: list[int], again: bool) -> list[Task]:
     ]
     if elsewhere and not again:
         warn(
-            f"{counted(len(elsewhere), 'task')} running {', '.join(sorted({state.words for state in elsewhere}))}; if that machine died: --again"
+            (
+                f"{counted(len(elsewhere), 'task')} running"
+                f" {', '.join(sorted({state.words for state in elsewhere}))}; if that machine"
+                " died: --again"
+            )
         )
     return [
         state.task
@@ -108,7 +117,7 @@ def _to_hand_in(study: Study, factors: list[int], again: bool) -> list[Task]:
 
 def _show(study: Study, tasks: list[Task], engine: _Engine, limits: object) -> None:
     """What would be handed in."""
-    from ..tasks.engines import Limits, megabytes, slurm_script
+    from ..tasks.clusters import Limits, megabytes, slurm_script
 
     say(f"{counted(len(tasks), 'task')} of {megabytes(study):,} MB each would be handed in:")
     for task in tasks:
@@ -122,10 +131,9 @@ def _show(study: Study, tasks: list[Task], engine: _Engine, limits: object) -> N
 def status(folder: Path = STUDY) -> None:
     """Show what is done, running, waiting and failed, and how long the rest will take."""
     from ..study.last_run import last_line
-    from ..tasks.engines import in_slurm
+    from ..tasks.clusters import in_slurm
     from ..tasks.status import FAILED, RUNNING, STATES, seconds_left, states
-    from ..tasks.task import wanted
-    from .build import duration
+    from ..tasks.tasks import wanted
 
     study = open_study(folder)
     in_hand: dict[Task, Handed] = {}
@@ -157,7 +165,7 @@ def status(folder: Path = STUDY) -> None:
         say(f"  running: {state.task}, {state.words}")
     left = seconds_left(study, found)
     if left:
-        say(f"the rest will take about {duration(left)}, by what is done")
+        say(f"the rest will take about {duration_text(left)}, by what is done")
     last = last_line(study.folder)
     if last:
         say(last)

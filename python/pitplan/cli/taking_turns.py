@@ -11,7 +11,7 @@ import typer
 from ..base import events
 from ..base.errors import PlanError, exit_status
 from ..base.within import refuse_study
-from ..study.turns import turn
+from ..study.study_lock import turn
 from .console import Wants, err, wants
 
 # The commands that write into a study.
@@ -43,11 +43,12 @@ def take_turns(app: typer.Typer) -> None:
             command.callback = _alone(command.callback)
 
 
-def _named_study(said: Mapping[str, Any]) -> Path:
-    """The study that a command was given: by an argument of its own, by the one of its words that is no change, or by the first of two."""
-    words = [word for word in said.get("words") or () if "=" not in word]
-    words += said.get("pair", ())[:-1]
-    return Path(said.get("folder") or (words[0] if words else "."))
+def _named_study(arguments: Mapping[str, Any]) -> Path:
+    """The study that a command was given: by an argument of its own, by the one of its words that
+    is no change, or by the first of two."""
+    words = [word for word in arguments.get("words") or () if "=" not in word]
+    words += arguments.get("pair", ())[:-1]
+    return Path(arguments.get("folder") or (words[0] if words else "."))
 
 
 def _waiting(who: str) -> None:
@@ -56,18 +57,18 @@ def _waiting(who: str) -> None:
     err.print(f"waiting: {who}", markup=False, soft_wrap=True)
 
 
-def _alone(command: Callable[..., Any], given: Wants = wants) -> Callable[..., Any]:
+def _alone(command: Callable[..., Any], waiting: Wants = wants) -> Callable[..., Any]:
     """A command that has its study to itself, and leaves in it what it told."""
 
     @functools.wraps(command)
-    def run(*args: Any, **said: Any) -> Any:
+    def run(*args: Any, **arguments: Any) -> Any:
         from ..study.study_file import path_of
 
-        folder = path_of(_named_study(said)).parent
+        folder = path_of(_named_study(arguments)).parent
         refuse_study(folder)
-        with turn(folder, events.words(), given.waits, _waiting), events.of_study(folder) as ends:
+        with turn(folder, events.words(), waiting.waits, _waiting), events.of_study(folder) as ends:
             try:
-                found = command(*args, **said)
+                found = command(*args, **arguments)
             except BaseException as wrong:
                 ends(exit_status(wrong), wrong if isinstance(wrong, PlanError) else None)
                 raise

@@ -8,7 +8,7 @@ from typing import Any, List
 
 import typer
 
-from ..base.stops import stop
+from ..base.interrupts import stop
 from ..base.within import refuse_study
 from .console import app, say
 
@@ -17,7 +17,8 @@ _STOPPED = 130
 _WORDS: Any = typer.Argument(
     ...,
     help=(
-        "run SCENARIO FACTOR, realisation NUMBER FACTORS, schedule SCENARIO 1000 or realisation-schedule NUMBER 1000; factors in thousandths. - reads such"
+        "run SCENARIO FACTOR, realisation NUMBER FACTORS, schedule SCENARIO 1000 or"
+        " realisation-schedule NUMBER 1000; factors in thousandths. - reads such"
         " lines from the standard input."
     ),
 )
@@ -31,7 +32,7 @@ def task(
     anywhere, twice, and after a crash."""
     from ..plans.task_line import task_of
     from ..tasks.local import serve
-    from ..tasks.task import Tasks, done_line
+    from ..tasks.tasks import Tasks, done_line
 
     # how a scheduler ends a task: what is half done is taken away, as after ctrl-C
     signal.signal(signal.SIGTERM, stop)

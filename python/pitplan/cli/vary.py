@@ -1,18 +1,33 @@
-"""`pitplan vary`: what-ifs."""
+"""`pitplan vary`: what-ifs, each a study with one thing changed."""
 from __future__ import annotations
 
 import math
-from collections.abc import Iterator
+import sys
+import time
+from collections.abc import Iterator, Sequence
 from pathlib import Path
 from typing import TYPE_CHECKING, Any, List, Optional, Tuple
 
 import typer
 
+from ..base import events
 from ..base.errors import PlanError
 from ..base.next_command import command
 from ..base.units_shown import counted, printed_scale
+from .console import (
+    SCHEDULES_GAP,
+    SCHEDULES_MINUTES,
+    app,
+    described,
+    err,
+    open_study,
+    print_columns,
+    results,
+    say,
+    warn,
+)
 from .tables import print_rock_of_classes
-from .console import app, described, err, open_study, print_columns, results, say, warn
+from .tasks_here import do_all, tell_slurm
 
 if TYPE_CHECKING:
     import pandas as pd
@@ -27,7 +42,14 @@ _APART = {True: "larger", False: "within the gaps"}
 _WORDS: Any = typer.Argument(
     None,
     metavar="[STUDY] [CHANGES]...",
-    help="The folder of the study (default: this one), and changes, as price=-20..20 price:gold=-10..10 recovery=-5..5 recovery:gold=-5..5 mining=-10..10 processing=-10..10 mining_rate=-10..10 mill_rate=-10..10, or of processes processing:leach=-10..10 rate:leach=-10..10 (percent of themselves) slope=-3..3 (degrees) discount=-2..2 (points: from 8 % to 10 % a year are 2); with --schedule also sink=-1..1 (benches). Default: the changes of the last run.",
+    help=(
+        "The folder of the study (default: this one), and changes, as price=-20..20"
+        " price:gold=-10..10 recovery=-5..5 recovery:gold=-5..5 mining=-10..10"
+        " processing=-10..10 mining_rate=-10..10 mill_rate=-10..10, or of processes"
+        " processing:leach=-10..10 rate:leach=-10..10 (percent of themselves) slope=-3..3"
+        " (degrees) discount=-2..2 (points: from 8 % to 10 % a year are 2); with --schedule"
+        " also sink=-1..1 (benches). Default: the changes of the last run."
+    ),
 )
 
 
@@ -40,12 +62,8 @@ def vary(
         "--schedule",
         help="A plan by years for each change, beside a bound of its own, in place of a pit.",
     ),
-    gap: float = typer.Option(
-        0.5, "--gap", min=0.0, help="With --schedule: end each within so many percent of its bound."
-    ),
-    minutes: float = typer.Option(
-        5.0, "--minutes", min=0.0, help="With --schedule: end each after so many minutes."
-    ),
+    gap: float = SCHEDULES_GAP,
+    minutes: float = SCHEDULES_MINUTES,
     later: bool = typer.Option(
         False, "--later", help="Build what is needed and find no pit yet: pitplan submit does."
     ),
@@ -54,8 +72,6 @@ def vary(
     ),
 ) -> None:
     """Find the proved pit with one thing changed at a time, and which of them moves the worth most, and the npv."""
-    from .risk import do_all, tell_slurm
-
     folder, changes = _folder_and_changes(words or [])
     study = open_study(folder)
     if is_schedule:
@@ -79,7 +95,7 @@ def vary(
 
 def _pits_asked(study: Study, folder: Path, changes: List[str], factor: float) -> list[Task]:
     """The tasks of the what-ifs that are asked for, or were last."""
-    from ..plans.vary import asked_of, changes_of, prepare, tasks
+    from ..plans.vary import asked_of, changes_of, prepare, vary_tasks
     from ..study.shells import thousandths
 
     if changes:
@@ -89,7 +105,7 @@ def _pits_asked(study: Study, folder: Path, changes: List[str], factor: float) -
                 study,
                 plan.economics,
                 plan.slopes,
-                changes_of(changes),
+                _told(changes_of(changes)),
                 thousandths(factor),
                 _rates_of(plan),
             )
@@ -98,7 +114,7 @@ def _pits_asked(study: Study, folder: Path, changes: List[str], factor: float) -
             "no what-ifs were asked for over the model that stands there",
             try_this=command("vary", folder, "price=-20..20", "recovery=-5..5", "slope=-3..3"),
         )
-    return list(dict.fromkeys(tasks(study)))
+    return list(dict.fromkeys(vary_tasks(study)))
 
 
 def _schedules_asked(
@@ -110,7 +126,7 @@ def _schedules_asked(
     Raises PlanError where [schedule] or the rates of study.toml have changed since they were.
     """
     from ..plans.vary import changes_of
-    from ..schedule.what_ifs import KNOWN, Asked, must_be_asked, prepare, tasks
+    from ..schedule.what_ifs import KNOWN, Asked, must_be_asked, prepare, what_if_tasks
 
     plan = described(folder)
     terms, rates = plan.values["schedule"], plan.rates
@@ -119,7 +135,7 @@ def _schedules_asked(
         each = [(change.what, change.by) for change in wanted]
         with err.status("the model of each change is built"):
             asked = Asked(study.key, each, terms, rates, *limits)
-            prepare(study, plan.economics, plan.slopes, wanted, asked)
+            prepare(study, plan.economics, plan.slopes, _told(wanted), asked)
     asked = must_be_asked(study)
     if (asked.values, asked.rates) != (terms, rates):
         raise PlanError(
@@ -127,7 +143,22 @@ def _schedules_asked(
             " with",
             try_this=command("vary", folder, "--schedule", "discount=-2..2", "price=-10..10"),
         )
-    return tasks(study)
+    return what_if_tasks(study)
+
+
+def _told(changes: Sequence[Change]) -> Iterator[Change]:
+    """The changes, each told before its model is built: off a terminal by a line."""
+    began = time.time()
+    for at, change in enumerate(changes, 1):
+        events.event("step", what=f"the model of {change} is built: {at} of {len(changes)}")
+        if not err.is_terminal:
+            spent = time.time() - began
+            print(
+                f"the model of {change}: {at} of {len(changes)} begun after {spent:.0f} s",
+                file=sys.stderr,
+                flush=True,
+            )
+        yield change
 
 
 def _write_schedules(study: Study) -> None:
@@ -165,7 +196,7 @@ def _write_schedules(study: Study) -> None:
             )
             for row, change in zip(found.to_dict("records"), _changes_in(found))
         ],
-        words=1,
+        word_columns=1,
     )
     alike = [change for change, is_apart in zip(_changes_in(found), found.is_apart) if not is_apart]
     if len(alike) > 1:  # the study itself is one of them
@@ -240,7 +271,7 @@ def _write_what_ifs(study: Study, rates: Rates) -> None:
             "npv difference",
         ),
         lines,
-        words=1,
+        word_columns=1,
     )
     print_rock_of_classes(
         study,
@@ -252,29 +283,29 @@ def _write_what_ifs(study: Study, rates: Rates) -> None:
     _warn_of_edges(found)
 
 
-def _changes_in(found: pd.DataFrame) -> Iterator[Change | None]:
+def _changes_in(table: pd.DataFrame) -> Iterator[Change | None]:
     """The change of each row; None of the study itself."""
     from ..plans.task_line import BASE
     from ..plans.vary import Change
 
-    for row in found.itertuples():
+    for row in table.itertuples():
         yield None if row.what == BASE else Change(row.what, row.by)
 
 
-def _warn_of_edges(found: pd.DataFrame) -> None:
+def _warn_of_edges(table: pd.DataFrame) -> None:
     """Says which what-ifs have a pit that touches the model's side or reaches its floor."""
     from ..study.edges import FLOOR, SIDE
 
-    own = [change is None or not change.keeps_pit for change in _changes_in(found)]
-    found = found[own]
+    own = [change is None or not change.keeps_pit for change in _changes_in(table)]
+    table = table[own]
     for name, (what, hint) in (("side_blocks", SIDE), ("floor_blocks", FLOOR)):
-        there = found[found[name] > 0]
+        there = table[table[name] > 0]
         if len(there):
             many = "of " + ", ".join(str(it or "the study itself") for it in _changes_in(there))
             if len(there) > 3:
-                is_each = len(there) == len(found)
+                is_each = len(there) == len(table)
                 of = "of each of these" if is_each else f"in {len(there):,} of these"
-                many = f"{of} {len(found):,} what-ifs"
+                many = f"{of} {len(table):,} what-ifs"
             warn(
                 f"the pit {many} {what.format(f'up to {int(there[name].max()):,} blocks there')}\n  try: {hint}"
             )

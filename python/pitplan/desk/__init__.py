@@ -1,1 +1,1 @@
-"""`pitplan desk`: the same commands and the same study.toml, in a browser."""
+"""`pitplan desk`: the same commands and the same study.toml in a browser, for one person."""

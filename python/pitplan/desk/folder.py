@@ -13,7 +13,7 @@ from contextlib import contextmanager, suppress
 from pathlib import Path
 from typing import Any
 
-from ..base.error_text import errors_told
+from ..base.error_text import errors_as_data
 from ..base.errors import PlanError
 from ..base.files import FULL
 
@@ -32,7 +32,7 @@ class Refused(Exception):
     def __init__(self, status: int, said: str, advice: str | None = None, **more: Any) -> None:
         super().__init__(said)
         self.status = status
-        self.told = {"errors": [PlanError(said, try_this=advice).as_data()], **more}
+        self.answer = {"errors": [PlanError(said, try_this=advice).as_data()], **more}
 
 
 class Folder:
@@ -49,14 +49,14 @@ class Folder:
         return found
 
     def study(self, name: str) -> Path:
-        """The folder of a study that is there."""
+        """The folder of a study that is there. Raises Refused where none is, or its name is none."""
         path = self.place(name)
         if not (path / "study.toml").is_file():
             raise Refused(404, f"there is no study called {name}")
         return path
 
     def new_study(self, name: str) -> Path:
-        """The folder of a study that isn't there yet."""
+        """The folder of a study that isn't there yet. Raises Refused where there is one, or its name is none."""
         path = self.place(name)
         if (path / "study.toml").exists():
             raise Refused(409, f"there is a study called {name} already", "another name")
@@ -65,7 +65,7 @@ class Folder:
         return path
 
     def place(self, name: str) -> Path:
-        """Where a study of this name is."""
+        """Where a study of this name is. Raises Refused where that is no name, or leads elsewhere."""
         if not _NAME.fullmatch(name) or name.endswith((" ", ".")):
             raise Refused(404, f"{name!r} is no name of a study", _LETTERS)
         path = self.within(self.root / name)
@@ -74,7 +74,7 @@ class Folder:
         return path
 
     def file(self, name: str, endings: tuple[str, ...], folder: Path | None = None) -> Path:
-        """A file that may be there or come there, by its bare name."""
+        """A file that may be there or come, by its bare name. Raises Refused where it is no such name."""
         if not _NAME.fullmatch(name) or not name.lower().endswith(endings):
             said = f"{name!r} can't be taken: a file here ends in {', '.join(endings)}"
             raise Refused(415, said, f"a name of {_LETTERS}")
@@ -93,7 +93,7 @@ class Folder:
         """The tables of the folder."""
         files = [path for path in sorted(self.root.iterdir()) if _NAME.fullmatch(path.name)]
         tables = [path for path in files if path.name.lower().endswith(TABLES) and path.is_file()]
-        return [_told_of(path, path.name) for path in tables]
+        return [_facts_of(path, path.name) for path in tables]
 
     def table_of(self, study: Path) -> Path | None:
         """The study's table; None where study.toml doesn't say it. Raises Refused where it lies outside."""
@@ -103,7 +103,7 @@ class Folder:
         return None
 
     def shown(self, study: Path, path: str) -> Path:
-        """A file of a study that may be looked at or saved."""
+        """A file of a study that may be looked at or saved. Raises Refused where it is none of those."""
         found, parts = self.within(study / path), Path(path).parts
         top = parts[0] if parts else ""
         is_shown = top in _SHOWN or top.startswith(BUNDLE)
@@ -116,14 +116,14 @@ class Folder:
         try:
             inside = [it for top in ("out", "designs") for it in sorted((study / top).rglob("*"))]
             names = [path.relative_to(study).as_posix() for path in inside if path.is_file()]
-            found = [_told_of(study / it, it) for it in names if not re.search(r"(^|/)\.", it)]
+            found = [_facts_of(study / it, it) for it in names if not re.search(r"(^|/)\.", it)]
         except FileNotFoundError:  # a run has moved it meanwhile
             return self.results(study)
         bundles = [path for path in sorted(study.glob(f"{BUNDLE}*")) if path.is_dir()]
-        return found + [{**_told_of(it, f"{it.name}.zip"), "bytes": None} for it in bundles]
+        return found + [{**_facts_of(it, f"{it.name}.zip"), "bytes": None} for it in bundles]
 
 
-def _told_of(path: Path, name: str) -> dict[str, Any]:
+def _facts_of(path: Path, name: str) -> dict[str, Any]:
     """A file's name, size and time."""
     found = path.stat()
     return {"path": name, "bytes": found.st_size, "when": found.st_mtime}
@@ -154,7 +154,7 @@ def writing(study: Path) -> Iterator[None]:
 
 
 def refusal(error: OSError, what: str = "") -> Refused:
-    """A disk that is full, or a folder where nothing may be written, in words; `what` isn't done, if not a file alone."""
+    """A full disk, or a folder where nothing may be written, in words; `what` isn't done."""
     where = Path(str(error.filename or "")).name[:80]
     if error.errno in FULL:
         undone = what or f"{where} wasn't written"
@@ -173,7 +173,7 @@ def refused(error: Exception) -> Refused:
         case Refused():
             return error
         case PlanError():
-            return Refused(422, error.said, errors=errors_told(error))
+            return Refused(422, error.said, errors=errors_as_data(error))
         case OSError():
             return refusal(error)
         case RecursionError():

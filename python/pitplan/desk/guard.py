@@ -15,7 +15,7 @@ _WELCOME = (
     '<!doctype html><title>pitplan desk</title><meta http-equiv="refresh" content="0;url=/">'
     '<a href="/">The desk</a>'
 )
-# The desk's own pages take all they need from here, and no text becomes markup: browsers that know trusted types refuse it.
+# The desk's own pages take all they need from here, and no text becomes markup.
 _POLICY = (
     "default-src 'none'; script-src 'self'; style-src 'self'; img-src 'self' data:; "
     "connect-src 'self'; frame-src 'self'; base-uri 'none'; form-action 'none'; "
@@ -39,10 +39,10 @@ _OURS = ("same-origin", "none")  # where a browser says that a request comes fro
 
 
 class Guard:
-    """Refuses what doesn't come from the desk's own pages, and hands all else on to `app`. The `token` is in the address that the
-    desk prints; then in a `cookie` that no script reads and no other site's page sends. Browsers call the desk by `names`, as the
-    header Host has them, each with the origin of its pages: one that was bent to this address (DNS rebinding) is none.
-    """
+    """Refuses what doesn't come from the desk's own pages, and hands all else on to `app`. The
+    `token` is in the address that the desk prints; then in a `cookie` that no script reads and no
+    other site's page sends. Browsers call the desk by `names`, as the header Host has them, each
+    with the origin of its pages: one that was bent to this address (DNS rebinding) is none."""
 
     def __init__(self, app: _App, token: str, names: Mapping[str, str], cookie: str) -> None:
         self.app, self.token, self.names, self.cookie = app, token, names, cookie
@@ -59,8 +59,8 @@ class Guard:
     def answer(self, request: Request, host: str) -> Response | None:
         """What a stranger gets; None where a request comes from the desk's own pages."""
         if host not in self.names:
-            told = f"The desk isn't called {host!r}; --name gives it a name more."
-            return PlainTextResponse(told, 421)
+            text = f"The desk isn't called {host!r}; --name gives it a name more."
+            return PlainTextResponse(text, 421)
         if self.is_token(request.query_params.get("token", "")) and request.url.path == "/":
             secure = "; Secure" if self.names[host].startswith("https:") else ""
             cookie = f"{self.cookie}={self.token}; Path=/; HttpOnly; SameSite=Strict{secure}"
@@ -68,20 +68,20 @@ class Guard:
         if not self.is_ours(request.method, request.headers, self.names[host]):
             return PlainTextResponse("This comes from another page than the desk's.", 403)
         if not self.is_token(request.cookies.get(self.cookie, "")):
-            told = "Open the address that `pitplan desk` has printed: it has ?token=.."
-            return PlainTextResponse(told, 403, {"x-desk": "another token"})
+            text = "Open the address that `pitplan desk` has printed: it has ?token=.."
+            return PlainTextResponse(text, 403, {"x-desk": "another token"})
         return None
 
     def is_ours(self, method: str, headers: Mapping[str, str], own: str) -> bool:
-        """Whether a request comes from a page of the desk's own; one that only reads may say nothing of where it comes from."""
+        """Whether a request is of a page of the desk's own; one that only reads may say nothing of it."""
         origin = headers.get("origin")
         if headers.get("sec-fetch-site", "none") not in _OURS:
             return False
         return origin == own or (origin is None and method in ("GET", "HEAD"))
 
-    def is_token(self, told: str) -> bool:
+    def is_token(self, text: str) -> bool:
         """Whether this is the token, without telling by the time how much of it is right."""
-        return hmac.compare_digest(told.encode(), self.token.encode())
+        return hmac.compare_digest(text.encode(), self.token.encode())
 
 
 def _hardened(send: Any) -> Callable[[Any], Awaitable[None]]:

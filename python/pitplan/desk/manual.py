@@ -34,7 +34,7 @@ def address() -> str | None:
 
 
 async def page_of(request: Request) -> FileResponse:
-    """A file of the manual."""
+    """A file of the manual. Raises Refused where it has none of this name."""
     first, path = _first_page(), request.path_params["path"]
     found = (first.parent / path).resolve() if first else Path()
     if first is None or not found.is_relative_to(first.parent.resolve()) or not found.is_file():

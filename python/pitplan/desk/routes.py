@@ -6,10 +6,8 @@ import inspect
 import itertools
 import json
 import math
-import os
 import re
 import shutil
-import tempfile
 import tomllib
 from collections.abc import Awaitable, Callable
 from contextlib import suppress
@@ -25,10 +23,10 @@ from ..base import events
 from ..base.files import put_aside, whole_file, write_json
 from ..base.study_lines import lines_of
 from ..base.typed_numbers import as_number
-from ..study import turns
+from ..study import study_lock
 from ..table.study_keys import KEYS, LISTS, Key
 from . import runs, toml_text
-from .asked import Commands
+from .button_commands import Commands
 from .folder import BUNDLE, DESIGNS, HOME, TABLES, Folder, Refused
 from .folder import etag, refusal, refused, stamp, writing
 from .guard import SANDBOX
@@ -36,15 +34,16 @@ from .manual import address, page_of
 from .worker import Worker
 
 STATIC = Path(__file__).resolve().parent / "static"
-_MOST = 2_000_000  # bytes of what is told in JSON
-_SHOWN = {".html": "text/html", ".png": "image/png"}  # all else is saved
-_OWN = {".html": "text/html", ".css": "text/css", ".js": "text/javascript"}
+_MOST_BYTES = 2_000_000  # bytes of what is told in JSON
+_SHOWN_TYPES = {".html": "text/html", ".png": "image/png"}  # all else is saved
+# of the files of the desk's own page
+_STATIC_TYPES = {".html": "text/html", ".css": "text/css", ".js": "text/javascript"}
 _LARGER = "copy it into the folder, or start the desk with a larger --upload-limit"
 _CHANGED = "changed.json"  # in a study's HOME: who wrote study.toml last, and what it was then
 # kinds of keys that have no numbers
 _WORDS = "text file column choice words rocks formulas columns units metals processes".split()
 _LONGEST_NAME = 40  # letters of who somebody says to be
-_Told = dict[str, Any]
+_Json = dict[str, Any]
 _Answer = Callable[[Request], Awaitable[Any]]
 
 
@@ -64,7 +63,7 @@ class Desk:
             ("GET", "/api/folder", self.home),
             ("PUT", "/api/tables/{name}", self.upload),
             ("POST", "/api/studies", self.begin),
-            ("GET", at, self.of_study(self.told)),
+            ("GET", at, self.of_study(self.whole)),
             ("PATCH", at, self.change),
             ("GET", at + "/pulse", self.of_study(self.beat)),
             ("GET", at + "/look", self.asks(self.heavy, "look")),
@@ -117,18 +116,19 @@ class Desk:
 
         return answer
 
-    async def home(self, request: Request) -> _Told:
+    async def home(self, request: Request) -> _Json:
         """The folder, and how studies are described."""
         found = [
             {"name": name, **await self.quick("overview", self.folder.root / name)}
             for name in self.folder.studies()
         ]
         keys = [{**asdict(key), **key.form} for key in KEYS]
-        told = {"studies": found, "tables": self.folder.tables(), "manual": address()}
-        return {"folder": str(self.folder.root), "keys": keys, **told}
+        facts = {"studies": found, "tables": self.folder.tables(), "manual": address()}
+        return {"folder": str(self.folder.root), "keys": keys, **facts}
 
-    async def upload(self, request: Request) -> _Told:
-        """Takes a file as it comes, into one beside its place; nothing that is there is lost before all of it has come."""
+    async def upload(self, request: Request) -> _Json:
+        """Takes a file as it comes, into one beside its place; nothing that is there is lost before all of it has come.
+        Raises Refused where one is there already, or it is none that the study takes."""
         is_design = "study" in request.path_params
         where = self.named(request) / "designs" if is_design else self.folder.root
         endings = DESIGNS if is_design else TABLES
@@ -136,26 +136,19 @@ class Desk:
         if path.exists() and "over" not in request.query_params:
             raise Refused(409, f"{path.name} is there already", "another name", exists=True)
         where.mkdir(exist_ok=True)
-        handle, part = tempfile.mkstemp(prefix=".upload-", suffix=path.suffix, dir=where)
-        try:
-            with os.fdopen(handle, "wb") as file:
+        with whole_file(path) as part:
+            with open(part, "wb") as file:
                 size = await self.taken(request, file, path.name)
-            kind: _Told = {}
+            kind: _Json = {}
             if is_design:
-                kind = await self.heavy("kind_of", Path(part), path.name, where.parent)
+                kind = await self.heavy("kind_of", part, path.name, where.parent)
                 if "errors" in kind:
                     raise Refused(422, kind["errors"][0]["said"], kind["errors"][0]["try"])
-            os.chmod(part, 0o664)
-            os.replace(part, path)
-        except OSError as error:
-            error.filename = str(path)
-            raise
-        finally:
-            Path(part).unlink(missing_ok=True)
+            part.chmod(0o664)
         return {"name": path.name, "bytes": size, **kind}
 
     async def taken(self, request: Request, file: IO[bytes], name: str) -> int:
-        """Writes what comes with a request, and gives its bytes."""
+        """Writes what comes with a request, and gives its bytes. Raises Refused where these are too many."""
         size, announced = 0, int(request.headers.get("content-length") or 0)
         async for piece in request.stream():
             size += len(piece)
@@ -166,7 +159,7 @@ class Desk:
 
     async def begin(self, request: Request) -> Any:
         """A study over a table, as `pitplan init`; or a copy of a study's study.toml."""
-        asked = await _told_in(request)
+        asked = await _json_in(request)
         if "copy" in asked:
             name = str(asked["copy"])
             text = (self.folder.study(name) / "study.toml").read_bytes()
@@ -181,29 +174,29 @@ class Desk:
         encoding = str(asked.get("encoding") or "") or None
         return await self.heavy("begin", study, self.folder.file(table, TABLES), columns, encoding)
 
-    async def told(self, study: Path) -> _Told:
-        """All of a study that stands in its folder."""
+    async def whole(self, study: Path) -> _Json:
+        """All of a study that stands in its folder. Raises Refused where memory was short."""
         before = (study / "study.toml").read_bytes()
         # of this very text, whatever is written while the rest is found: the page sees that it is old
         pulse = {**self.beat(study), "etag": etag(before)}
-        values: _Told | None = None
-        outside, text = list[_Told](), before.decode("utf-8-sig", "replace")
+        values: _Json | None = None
+        outside, text = list[_Json](), before.decode("utf-8-sig", "replace")
         with suppress(ValueError, RecursionError):
             values = tomllib.loads(before.decode("utf-8-sig"))
         try:
             self.folder.table_of(study)
         except Refused as refused:
-            outside = [{**refused.told["errors"][0], "key": ["model", "table"]}]
-        told = {"name": study.name, "text": text, "values": values, "lines": lines_of(text)}
-        told |= {"runs": list(map(_shown, runs.of(study))), "files": self.folder.results(study)}
+            outside = [{**refused.answer["errors"][0], "key": ["model", "table"]}]
+        facts = {"name": study.name, "text": text, "values": values, "lines": lines_of(text)}
+        facts |= {"runs": list(map(_shown, runs.of(study))), "files": self.folder.results(study)}
         state = await self.quick("overview", study)
         if "errors" in state:
             raise Refused(503, state["errors"][0]["said"], state["errors"][0]["try"])
-        return {**told, "outside": outside, "state": state, "pulse": pulse}
+        return {**facts, "outside": outside, "state": state, "pulse": pulse}
 
-    def beat(self, study: Path) -> _Told:
+    def beat(self, study: Path) -> _Json:
         """What study.toml, the table, the designs and the latest run are now, and who has the study."""
-        found, holder, table = runs.of(study), turns.is_held(study), ""
+        found, holder, table = runs.of(study), study_lock.is_held(study), ""
         with suppress(OSError, Refused):
             table = str(stamp(self.folder.table_of(study) or study / "no table"))
         latest = {key: found[0][key] for key in ("number", "state")} if found else None
@@ -211,9 +204,9 @@ class Desk:
         designs = sorted(it.name for it in (study / "designs").glob("[!.]*"))
         return {**now, "designs": designs, "held": str(holder) if holder else None}
 
-    async def change(self, request: Request) -> _Told:
+    async def change(self, request: Request) -> _Json:
         """Writes study.toml: some keys, or the whole text. Refused where somebody has changed the same meanwhile."""
-        study, asked = self.named(request), await _told_in(request)
+        study, asked = self.named(request), await _json_in(request)
         path, kept = study / "study.toml", None
         with writing(study):
             before = path.read_bytes()
@@ -227,34 +220,34 @@ class Desk:
             _write(path, new)
             with suppress(OSError):  # who it was may be lost on a full disk, and no more
                 write_json(study / HOME / _CHANGED, {"etag": etag(new), "who": _who(asked)})
-        return {**await self.told(study), "kept": kept}
+        return {**await self.whole(study), "kept": kept}
 
     async def wanted(self, request: Request) -> runs.Wanted:
         """What is asked for, as commands."""
-        study, asked = self.readable(request), await _told_in(request)
+        study, asked = self.readable(request), await _json_in(request)
         steps = Commands(self.folder, study, runs.of(study)).steps(asked)
         kept = {key: value for key, value in asked.items() if key != "who"}
         return runs.Wanted(str(asked["what"]), steps, _who(asked), kept)
 
-    async def typed(self, request: Request) -> _Told:
+    async def typed(self, request: Request) -> _Json:
         """What a button would run, as it is typed."""
         return {"typed": (await self.wanted(request)).typed}
 
-    async def start(self, request: Request) -> _Told:
-        """Starts a run."""
+    async def start(self, request: Request) -> _Json:
+        """Starts a run. Raises Refused where another command has the study, or nothing can be written."""
         wanted, study = await self.wanted(request), self.named(request)
         try:
             number = await asyncio.to_thread(runs.start, self.folder.root, study, wanted)
-        except turns.Held as held:
+        except study_lock.Held as held:
             raise Refused(409, held.said, "stop it, or the same when it is done") from None
         except OSError as error:
             raise refusal(error, "the run wasn't begun") from None
         return {"number": number}
 
-    def of_run(self, do: Callable[[_Told, Request], _Told]) -> _Answer:
+    def of_run(self, do: Callable[[_Json, Request], _Json]) -> _Answer:
         """A route that has a function of a run answer."""
 
-        async def answer(request: Request) -> _Told:
+        async def answer(request: Request) -> _Json:
             return do(_numbered(self.named(request), int(request.path_params["number"])), request)
 
         return answer
@@ -265,11 +258,11 @@ class Desk:
         if path.startswith(BUNDLE) and path.endswith(".zip") and "/" not in path:
             return await asyncio.to_thread(self.zipped, study, path.removesuffix(".zip"))
         found = self.folder.shown(study, path)
-        kind = None if "save" in request.query_params else _SHOWN.get(found.suffix)
+        kind = None if "save" in request.query_params else _SHOWN_TYPES.get(found.suffix)
         return _sent(found, kind, path.removeprefix("out/"))
 
     def zipped(self, study: Path, name: str) -> Response:
-        """A bundle in one file."""
+        """A bundle in one file. Raises Refused where there is none of this name."""
         whole = self.folder.within(study / name)
         if not whole.is_dir() or whole.parent != study:
             raise Refused(404, f"there is no {name}")
@@ -283,22 +276,22 @@ def _sent(path: Path, kind: str | None, called: str) -> FileResponse:
     how = "inline" if kind else "attachment"
     name = re.sub(r"[^\w .+-]", "_", called.replace("/", "-"), flags=re.ASCII)
     name += "" if path.suffix else ".txt"
-    told = f'{how}; filename="{name}"'
-    headers = {"content-security-policy": SANDBOX, "content-disposition": told}
+    disposition = f'{how}; filename="{name}"'
+    headers = {"content-security-policy": SANDBOX, "content-disposition": disposition}
     return FileResponse(path, media_type=kind or "application/octet-stream", headers=headers)
 
 
-def _who(asked: _Told) -> str:
+def _who(body: _Json) -> str:
     """Who says to ask, as a line shows it."""
-    said = "".join(c for c in str(asked.get("who", "")) if c.isprintable())[:_LONGEST_NAME]
+    said = "".join(c for c in str(body.get("who", "")) if c.isprintable())[:_LONGEST_NAME]
     return said.strip() or "somebody"
 
 
-def _text_of(asked: _Told, study: Path) -> bytes:
+def _text_of(body: _Json, study: Path) -> bytes:
     """The text that is asked for: that of a run of before, or one that is told."""
-    if "text" in asked:
-        return str(asked["text"]).encode()
-    return Path(_numbered(study, int(asked["run"]))["folder"], "study.toml").read_bytes()
+    if "text" in body:
+        return str(body["text"]).encode()
+    return Path(_numbered(study, int(body["run"]))["folder"], "study.toml").read_bytes()
 
 
 def _key_of(section: Any, *rest: Any) -> Key | None:
@@ -343,7 +336,7 @@ def _write(path: Path, text: bytes) -> None:
         part.write_bytes(text)
 
 
-def _numbered(study: Path, number: int) -> _Told:
+def _numbered(study: Path, number: int) -> _Json:
     """A run of a study."""
     for run in runs.of(study):
         if run["number"] == number:
@@ -351,32 +344,32 @@ def _numbered(study: Path, number: int) -> _Told:
     raise Refused(404, f"there is no run {number}")
 
 
-def _shown(run: _Told) -> _Told:
+def _shown(run: _Json) -> _Json:
     """A run as the browser takes it, and how far it is."""
     names = ("number", "what", "typed", "asked", "who", "began", "state", "status", "seconds")
-    told = {name: run[name] for name in names} | {"folder": f"log/desk/{run['folder'].name}"}
+    shown = {name: run[name] for name in names} | {"folder": f"log/desk/{run['folder'].name}"}
     if run["state"] == "running":
-        found, _ = events.read_on(run["folder"] / "events.jsonl", 0, _MOST)
-        told["far"] = events.progress(found, run["typed"])
-    return told
+        found, _ = events.read_on(run["folder"] / "events.jsonl", 0, _MOST_BYTES)
+        shown["far"] = events.progress(found, run["typed"])
+    return shown
 
 
-def _run_from(run: _Told, request: Request) -> _Told:
+def _run_from(run: _Json, request: Request) -> _Json:
     """A run, and what it has done since a place."""
     place = int(request.query_params.get("from", 0))
-    found, upto = events.read_on(run["folder"] / "events.jsonl", place, _MOST)
+    found, upto = events.read_on(run["folder"] / "events.jsonl", place, _MOST_BYTES)
     return {**_shown(run), "events": found, "upto": upto}
 
 
-async def _told_in(request: Request) -> _Told:
+async def _json_in(request: Request) -> _Json:
     """What a request tells in JSON, of a bounded size."""
     if request.headers.get("content-type", "") != "application/json":
         raise Refused(415, "the desk takes JSON here")
     body = b""
     async for piece in request.stream():
         body += piece
-        if len(body) > _MOST:
-            raise Refused(413, f"the desk takes at most {_MOST:,} bytes here")
+        if len(body) > _MOST_BYTES:
+            raise Refused(413, f"the desk takes at most {_MOST_BYTES:,} bytes here")
     found = json.loads(body)
     if not isinstance(found, dict):
         raise Refused(400, "the desk takes a table of JSON here")
@@ -396,7 +389,7 @@ def _answering(do: _Answer) -> _Answer:
             no = Refused(400, "what was sent broke off")
         except Exception as error:
             no = refused(error)
-        return JSONResponse(_sayable(no.told), no.status)
+        return JSONResponse(_sayable(no.answer), no.status)
 
     return answer
 
@@ -418,4 +411,4 @@ async def _own(request: Request) -> Response:
     name = request.path_params["name"] or "desk.html"
     if name not in {path.name for path in STATIC.iterdir()}:
         raise Refused(404, "there is no such page")
-    return FileResponse(STATIC / name, media_type=_OWN[Path(name).suffix])
+    return FileResponse(STATIC / name, media_type=_STATIC_TYPES[Path(name).suffix])

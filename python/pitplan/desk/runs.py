@@ -1,4 +1,5 @@
-"""Commands of pitplan that the desk has started, each run in a folder `log/desk/0007-shells` of its study: they outlive the desk.
+"""Commands of pitplan that the desk has started, each run in a folder `log/desk/0007-shells` of its
+study: they outlive the desk.
 
     asked.json    the commands, with what was asked for, by whom and when
     process.json  the process that does them
@@ -7,8 +8,8 @@
     study.toml    as it was then
     going         until they have ended; then it is renamed, which takes no room on a full disk, to `ended-STATUS-STEP`
 
-One at a time over a study: the run holds the study's own lock, as a command in a terminal does, and the system lets it go when the
-last process of the run ends.
+One at a time over a study: the run holds the study's own lock, as a command in a terminal does, and
+the system lets it go when the last process of the run ends.
 """
 from __future__ import annotations
 
@@ -29,7 +30,7 @@ from typing import Any
 from ..base import events
 from ..base.files import host, write_json
 from ..base.within import NAME as WITHIN
-from ..study import turns
+from ..study import study_lock
 from .folder import HOME
 
 _PACKAGE = str(Path(__file__).resolve().parents[2])  # the folder that has pitplan
@@ -43,8 +44,9 @@ _children: list[subprocess.Popen[bytes]] = []  # those that this desk has to bur
 
 @dataclass(frozen=True)
 class Wanted:
-    """What a run is to do: `what` is in its folder's name; `steps` are the words of each command behind `pitplan`, each only where
-    those before it were done; `asked` is kept, so that the same can be asked for again."""
+    """What a run is to do: `what` is in its folder's name; `steps` are the words of each command
+    after `pitplan`, each only where those before it were done; `asked` is kept, so that the same
+    can be asked for again."""
 
     what: str
     steps: Sequence[Sequence[str]]
@@ -59,21 +61,20 @@ class Wanted:
 
 def start(root: Path, study: Path, wanted: Wanted) -> int:
     """Starts a run in the folder `root`, outside of which it reads nothing, and gives its number.
-
-    Raises turns.Held where another command has the study, and OSError where its folder can't be written.
-    """
-    lock = turns.open_lock(study)
+    Raises turns.Held where another command has the study, and OSError where its folder can't be
+    written."""
+    lock = study_lock.open_lock(study)
     if lock is None:
         raise PermissionError(13, "nothing can be written there", str(study))
     with lock:
-        turns.taken(lock, study, waits=False, waiting=None)
+        study_lock.taken(lock, study, waits=False, waiting=None)
         number = 1 + max((run["number"] for run in of(study)), default=0)
         folder = study / HOME / f"{number:04d}-{wanted.what}"
         folder.mkdir(parents=True)
         try:
             shutil.copyfile(study / "study.toml", folder / "study.toml")
-            told = {**asdict(wanted), "typed": wanted.typed, "began": time.time()}
-            write_json(folder / "asked.json", told)
+            asked = {**asdict(wanted), "typed": wanted.typed, "began": time.time()}
+            write_json(folder / "asked.json", asked)
             (folder / "going").touch()
             _spawned(folder, root, lock.fileno())
         except OSError:
@@ -84,7 +85,7 @@ def start(root: Path, study: Path, wanted: Wanted) -> int:
 
 def _spawned(folder: Path, root: Path, lock: int) -> None:
     """Starts the run's own process, in a session of its own, which inherits the lock."""
-    around = {**os.environ, turns.PASSED: str(lock), WITHIN: str(root)}
+    around = {**os.environ, study_lock.PASSED: str(lock), WITHIN: str(root)}
     around[events.FILE] = str(folder / "events.jsonl")
     with open(folder / "log", "wb") as log:
         run = subprocess.Popen(
@@ -104,19 +105,19 @@ def _spawned(folder: Path, root: Path, lock: int) -> None:
 def _do_all(name: str) -> None:
     """The run's own process: does the commands, hears ctrl-C for them, and leaves how they ended."""
     folder, stopped = Path(name), list[int]()
-    told = read(folder / "asked.json")
+    asked = read(folder / "asked.json")
     # a handler, since what is ignored would be ignored by the commands, too
     signal.signal(signal.SIGINT, lambda *_: stopped.append(1))
-    status, at, lock = 0, 0, int(os.environ[turns.PASSED])
+    status, at, lock = 0, 0, int(os.environ[study_lock.PASSED])
     with suppress(OSError), open(lock, "a", encoding="utf-8", closefd=False) as held:
-        turns.write_holder(held, ["; ".join(told["typed"])])
-    for at, words in enumerate(told["steps"], 1):
+        study_lock.write_holder(held, ["; ".join(asked["typed"])])
+    for at, words in enumerate(asked["steps"], 1):
         with suppress(OSError):  # on a full disk the commands say so
-            os.write(sys.stdout.fileno(), f"$ {told['typed'][at - 1]}\n".encode())
+            os.write(sys.stdout.fileno(), f"$ {asked['typed'][at - 1]}\n".encode())
         command = [sys.executable, "-I", "-c", _COMMAND, *words]
         ended = subprocess.run(command, stdin=subprocess.DEVNULL, pass_fds=(lock,)).returncode
         before, status = status, _STOPPED if stopped else 128 - ended if ended < 0 else ended
-        if words[0] == "page" and told["what"] == "compare" and not stopped:
+        if words[0] == "page" and asked["what"] == "compare" and not stopped:
             status = before  # of the design; why the page can't show it stands in the log
         if stopped or not is_done(status, words):
             break
@@ -125,7 +126,7 @@ def _do_all(name: str) -> None:
 
 
 def is_done(status: int, words: Sequence[str]) -> bool:
-    """Whether a command has said all that it was asked for: `compare` ends with 1 where the design breaks the slopes."""
+    """Whether a command said all it was asked for: `compare` ends with 1 where slopes are broken."""
     return status == 0 or (status == 1 and words[0] == "compare")
 
 
@@ -141,19 +142,19 @@ def of(study: Path) -> list[dict[str, Any]]:
 
 def _run_in(folder: Path) -> dict[str, Any] | None:
     """A run, and how far it is; None where it was never begun."""
-    told = read(folder / "asked.json")
-    if told is None:
+    asked = read(folder / "asked.json")
+    if asked is None:
         return None
-    told.pop("root", None)  # as earlier versions had it
-    steps, end = told.pop("steps"), next(folder.glob("ended-*-*"), None)
-    run = {**told, "number": int(folder.name.partition("-")[0]), "folder": folder}
+    asked.pop("root", None)  # as earlier versions had it
+    steps, end = asked.pop("steps"), next(folder.glob("ended-*-*"), None)
+    run = {**asked, "number": int(folder.name.partition("-")[0]), "folder": folder}
     run |= {**(read(folder / "process.json") or {}), "status": None}
     if end is None:
-        return {**run, "state": _unended(run), "seconds": time.time() - told["began"]}
+        return {**run, "state": _unended(run), "seconds": time.time() - asked["began"]}
     status, at = (int(part) for part in end.name.split("-")[1:])
     well = is_done(status, steps[0] if at else [""])
     state = "done" if well else "stopped" if status == _STOPPED else "failed"
-    seconds = end.stat().st_mtime - told["began"]
+    seconds = end.stat().st_mtime - asked["began"]
     return {**run, "state": state, "status": status, "at": at, "seconds": seconds}
 
 

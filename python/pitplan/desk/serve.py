@@ -1,4 +1,4 @@
-"""Starts the desk."""
+"""Starts the desk: its routes on a port, its address printed, its end by ctrl-C."""
 from __future__ import annotations
 
 import os
@@ -46,11 +46,9 @@ def serve(
     addresses: Sequence[str] = (),
     upload_limit: int = 2_000_000_000,
 ) -> None:
-    """Serves a folder at a host and a port until ctrl-C. Browsers may call it by further addresses, as "https://desk.mine.example";
-    what is dropped has at most `upload_limit` bytes.
-
-    Raises PlanError where the folder or an address is none, and MachineError where another program listens there.
-    """
+    """Serves a folder at a host and a port until ctrl-C. Browsers may call it by more addresses, as
+    "https://desk.mine.example"; what is dropped has at most `upload_limit` bytes. Raises PlanError
+    where folder or address is none, MachineError where the port is taken."""
     if not folder.is_dir():
         raise PlanError(f"{folder} is no folder", try_this="one with tables and studies")
     names = names_of(port, addresses)
@@ -74,8 +72,8 @@ def serve(
 
 
 def names_of(port: int, addresses: Sequence[str]) -> dict[str, str]:
-    """What browsers call the desk, as the header Host has it, and of each the origin of its pages. Raises PlanError where a further
-    address is none."""
+    """What browsers call the desk, as the header Host has it, and of each the origin of its pages.
+    Raises PlanError where a further address is none."""
     found = {f"{name}:{port}": f"http://{name}:{port}" for name in _HERE}
     for address in addresses:
         parts = urlsplit(address)

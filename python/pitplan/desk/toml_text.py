@@ -10,7 +10,7 @@ from typing import Any
 import tomlkit
 from tomlkit.items import AoT
 
-from ..base.errors import spelled
+from ..base.errors import toml_spelled
 from ..base.study_lines import step_of, value_at
 
 _Path = list[Any]  # as ["economics", "metals", "copper", "price"]; a list's item by its place, too
@@ -22,17 +22,14 @@ class Conflict(Exception):
     """What is to be changed, at `path`, isn't any more what whoever changes it has seen."""
 
     def __init__(self, path: _Path) -> None:
-        super().__init__(_told(path))
+        super().__init__(_in_words(path))
         self.path = path
 
 
 def changed(text: str, changes: Sequence[dict[str, Any]]) -> str:
-    """The text with some keys set, or taken out. Each change has ``path``, ``value`` (None takes it out), and ``was``: what stood
-    there for whoever asks.
-
-    Raises Conflict where something else stands there now, and ValueError where the text is no TOML, a path leads nowhere, or the
-    outcome isn't exactly what was asked for.
-    """
+    """The text with some keys set, or taken out. Each change has ``path``, ``value`` (None takes it
+    out), and ``was``: what stood there. Raises Conflict where something else stands there now,
+    ValueError where the text is no TOML, a path leads nowhere, or something else comes of it."""
     first = tomllib.loads(text)
     for change in changes:
         if len(change["path"]) < 2:
@@ -48,12 +45,12 @@ def changed(text: str, changes: Sequence[dict[str, Any]]) -> str:
         except Exception as error:  # tomlkit raises what it likes of what it can't write
             raise ValueError(f"{type(error).__name__}: {error}") from None
         if tomllib.loads(new) != wanted:
-            raise ValueError(f"{_told(path)} can't be written there: change it in the text")
+            raise ValueError(f"{_in_words(path)} can't be written there: change it in the text")
         text = new
     return text
 
 
-def _told(path: _Path) -> str:
+def _in_words(path: _Path) -> str:
     """A path in words."""
     return f"[{path[0]}] " + ".".join(map(str, path[1:]))
 
@@ -83,7 +80,7 @@ def _put(tree: Any, path: _Path, value: Any) -> None:
         else:
             tree[last] = value
     except (LookupError, TypeError, AttributeError, StopIteration) as error:
-        raise ValueError(f"there is no {_told(path)}: {error}") from None
+        raise ValueError(f"there is no {_in_words(path)}: {error}") from None
 
 
 def _in_text(text: str, path: _Path, value: Any) -> str:
@@ -106,7 +103,8 @@ def _in_text(text: str, path: _Path, value: Any) -> str:
 
 
 def _without(text: str, section: str, key: str) -> str | None:
-    """The text with a key's line as a comment, in which it stands again once it has a value; None where it has no line of its own."""
+    """The text with a key's line as a comment, in which it stands again once it has a value; None
+    where it has no line of its own."""
     wanted, lines = tomllib.loads(text), text.splitlines(keepends=True)
     _put(wanted, [section, key], _NOTHING)
     for i, line in enumerate(lines):
@@ -121,13 +119,13 @@ def _without(text: str, section: str, key: str) -> str | None:
 def _written(value: Any) -> str:
     """A value as `init` writes it: each table of a list, as the metals are, in a line of its own."""
     if isinstance(value, list) and value and all(isinstance(each, dict) for each in value):
-        return "[\n" + "".join(f"    {spelled(each)},\n" for each in value) + "]"
-    return spelled(value)
+        return "[\n" + "".join(f"    {toml_spelled(each)},\n" for each in value) + "]"
+    return toml_spelled(value)
 
 
 def _with_new_key(text: str, section: str, key: str, value: str) -> str:
-    """A key more in a section: in place of its line of comment, or after the section's last line; in a section of its own at the
-    end where there is none."""
+    """A key more in a section: in place of its line of comment, or after the section's last line;
+    in a section of its own at the end where there is none."""
     end = "\r\n" if "\r\n" in text else "\n"
     if section not in tomllib.loads(text):
         text = f"{text.rstrip()}{end}{end}[{section}]{end}".lstrip()

@@ -1,8 +1,8 @@
 """What needs pitplan's own Python, for the desk: done in a process that may be ended, and never in the server.
 
-Each function gives what JSON can say (a picture is bytes), or ``{"errors": ..}`` in pitplan's words. Nothing is kept but what was read of
-a table, so that prices can be tried without reading it again.
-"""
+Each function gives what JSON can say (a picture is bytes), or ``{"errors": ..}`` in pitplan's
+words. Nothing is kept but what was read of a table, so that prices can be tried without reading it
+again."""
 from __future__ import annotations
 
 import csv
@@ -17,23 +17,25 @@ from itertools import zip_longest
 from pathlib import Path
 from typing import Any
 
-from ..base.error_text import errors_told
+from ..base.amounts import THOUSAND
+from ..base.error_text import errors_as_data
 from ..base.errors import PlanError
 from ..base.files import whole_file
 from ..base.next_command import command
+from ..base.shown_cells import texts_of
 from ..base.units import Units
-from ..model.tonnage import TITLE, texts_of
+from ..model.grade_tonnage import TITLE
 from ..plans.design import by_ids_of, has_points
 from ..plans.surface import of_dxf
 from ..schedule.terms import wrong_terms
 from ..study.building import near
 from ..study.check import check as checked, model_of
 from ..study.first_look import GRADE, look_at, metal_in, named_grades, written
-from ..study.looks import of_walls
+from ..study.strange_inputs import of_walls
 from ..study.study import Study
 from ..slopes.slopes import walls_of
 from ..study.study_file import parts_of_file, read_study_file
-from ..table.column_lines import told_of
+from ..table.column_lines import line_of_column
 from ..table.column_names import PLACES, columns_found, nearest
 from ..table.csv_text import SAY_ENCODING, dialect_of, head_of, names_of, numbers_among
 from ..table.csv_text import read_frame, rows_about
@@ -49,10 +51,10 @@ _WIDEST = 60  # columns of a row that are shown
 _MOST_ROWS = 20  # in which a column that may be a coordinate has a number
 _NUMBER = re.compile(r"\s*[-+]?[\d.,]*\d[\d.,]*(e[-+]?\d+)?\s*", re.IGNORECASE)
 _KEPT = {"schedule": "runs/schedule/schedule.npz", "risk": "risk/risk.json"}
-_Told = dict[str, Any]
+_Json = dict[str, Any]
 
 
-def begin(study: Path, table: Path, columns: Mapping[str, str], encoding: str | None) -> _Told:
+def begin(study: Path, table: Path, columns: Mapping[str, str], encoding: str | None) -> _Json:
     """As `pitplan init`: looks at a table and writes study.toml. What is asked for in its place comes with an error."""
     try:
         look = _looked(stamp(table), tuple(sorted(columns.items())), encoding)
@@ -66,28 +68,28 @@ def begin(study: Path, table: Path, columns: Mapping[str, str], encoding: str | 
 
 def _asked_for(
     table: Path, columns: Mapping[str, str], encoding: str | None, error: PlanError
-) -> _Told:
-    """What the desk asks where a table can't be read so: which column is which, with a guess for each; or its encoding."""
-    told = errors_told(error)
+) -> _Json:
+    """What the desk asks of a table: which column is which, with a guess for each; or its encoding."""
+    errors = errors_as_data(error)
     try:
         dialect = dialect_of(table, encoding or "utf-8-sig")
         first, *rows = head_of(table, dialect.encoding, 1 + _MOST_ROWS)
         header = names_of(first, dialect.separator)
     except PlanError:
-        if told[0]["try"] == SAY_ENCODING:
-            told[0]["try"] = _ASK_ENCODING
-        return {"errors": told, "asks": "encoding"}
+        if errors[0]["try"] == SAY_ENCODING:
+            errors[0]["try"] = _ASK_ENCODING
+        return {"errors": errors, "asks": "encoding"}
     found = columns_found(header, columns)
     missing = [key for key in PLACES if key not in found]
     cells = zip_longest(*csv.reader(rows, delimiter=dialect.separator), fillvalue="")
     numbers = [name for name, column in zip(header, cells) if any(map(_NUMBER.fullmatch, column))]
-    for it in told:
+    for it in errors:
         if it["column"] in set(found.values()) - set(numbers):  # the choice is wrong, not the cells
             it["try"] = "choose another column in its place"
     free = [name for name in numbers if name not in found.values()]
     guessed = {key: name for key, name in nearest(missing, free).items() if name in header}
     known = columns_found(header, {})
-    return {"errors": told, "header": header, "known": known, "found": found, "near": guessed}
+    return {"errors": errors, "header": header, "known": known, "found": found, "near": guessed}
 
 
 @functools.lru_cache(maxsize=2)
@@ -96,9 +98,9 @@ def _looked(table: tuple[str, int, int], columns: Any, encoding: str | None) -> 
     return look_at(Path(table[0]), dict(columns), encoding, ASK_COLUMNS)
 
 
-def look(study: Path) -> _Told:
-    """What a study's table looks like, what `init` would say of it, and a line for each column, without the cells that study.toml
-    calls not estimated."""
+def look(study: Path) -> _Json:
+    """What a study's table looks like, what `init` would say of it, and a line for each column,
+    without the cells that study.toml calls not estimated."""
     table, model = _table_of(study)
     columns, absent = model.get("columns", {}), model.get("absent")
     columns = columns.items() if isinstance(columns, dict) else ()
@@ -108,20 +110,22 @@ def look(study: Path) -> _Told:
     marks = list(map(str, absent)) if isinstance(absent, list) else found.absent
     each = [*found.grades, GRADE]
     metals = tomllib.loads(f"metals = [{''.join(map(metal_in, each))}]")["metals"]
-    told = {name: getattr(found, name) for name in _LOOKED}
-    told["size"] = found.size and list(found.size)
+    answer = {name: getattr(found, name) for name in _LOOKED}
+    answer["size"] = found.size and list(found.size)
     if isinstance(skip := model.get("skip"), int):
-        told["rows"] += found.dialect.skip - skip
-    told |= {"named": named_grades(found), "metals": dict(zip(each, metals)), "marks": marks}
-    seen, now = {key: told[key] for key in _GUESSED}, {"rotation": 0, **model, "absent": marks}
+        answer["rows"] += found.dialect.skip - skip
+    answer |= {"named": named_grades(found), "metals": dict(zip(each, metals)), "marks": marks}
+    seen, now = {key: answer[key] for key in _GUESSED}, {"rotation": 0, **model, "absent": marks}
     if set(seen["absent"]) <= set(marks):
         del seen["absent"]
-    told["differs"] = [[key, it] for key, it in seen.items() if it not in (None, now.get(key))]
-    told["columns"], told["init"] = _lines(*of, tuple(marks)), tomllib.loads(written(found, "t"))
-    return told
+    answer["differs"] = [[key, it] for key, it in seen.items() if it not in (None, now.get(key))]
+    answer["columns"], answer["init"] = _lines(*of, tuple(marks)), tomllib.loads(
+        written(found, "t")
+    )
+    return answer
 
 
-def _table_of(study: Path) -> tuple[Path, _Told]:
+def _table_of(study: Path) -> tuple[Path, _Json]:
     """A study's table, and its keys of [model]."""
     parts = parts_of_file(study)
     if parts.table is None:
@@ -131,14 +135,14 @@ def _table_of(study: Path) -> tuple[Path, _Told]:
 
 
 @functools.lru_cache(maxsize=1)
-def _lines(table: Any, columns: Any, encoding: str | None, absent: tuple[str, ...]) -> list[_Told]:
+def _lines(table: Any, columns: Any, encoding: str | None, absent: tuple[str, ...]) -> list[_Json]:
     """A line for each column of a table, made once."""
     found, marks = _looked(table, columns, encoding), numbers_among(absent)
     frame = read_frame(Path(table[0]), found.dialect)
     is_what = {found.region: "region"} | {own: name for name, own in found.names.items()}
     is_what |= dict.fromkeys(found.grades, "grade")
-    each = ((name, told_of(frame[name], marks)) for name in map(str, frame.columns))
-    return [{"name": name, "is": is_what.get(name, ""), **told} for name, told in each]
+    each = ((name, line_of_column(frame[name], marks)) for name in map(str, frame.columns))
+    return [{"name": name, "is": is_what.get(name, ""), **facts} for name, facts in each]
 
 
 _model: dict[Any, Any] = {}  # the model that was read last, by what it was read with
@@ -156,64 +160,65 @@ def _kept_model(parts: Any) -> Any:
     return _model[key]
 
 
-def check(study: Path) -> _Told:
+def check(study: Path) -> _Json:
     """What `pitplan check` says: each error and look, and what lies in the ground at the prices as they stand."""
     began, path = time.monotonic(), study / "study.toml"
     found = checked(study, _kept_model)
     model, tonnage = found.model, found.tonnage
     if found.parts and not found.errors:
         found.errors = wrong_terms(found.parts.whole(), command("shells", study))
-    told: _Told = {
-        "errors": [each for error in found.errors for each in errors_told(error, path)],
+    answer: _Json = {
+        "errors": [each for error in found.errors for each in errors_as_data(error, path)],
         "looks": [it.as_data() for it in found.looks],
         "factors": found.parts and found.parts.factors,
     }
     if model is not None:
-        told |= {"blocks": len(model), "size": model.grid.size, "shape": model.grid.shape}
+        answer |= {"blocks": len(model), "size": model.grid.size, "shape": model.grid.shape}
         bottom, height, count = model.grid.origin[2], model.grid.size[2], model.grid.shape[2]
         middles = [float(bottom + level * height) for level in reversed(range(count))]
-        told |= {"notes": model.notes, "benches": middles}
+        answer |= {"notes": model.notes, "benches": middles}
     if tonnage is not None and found.parts and found.priced is not None:
-        told["tonnage"] = dict(zip(("title", "names", "rows"), (TITLE, *texts_of(tonnage))))
+        answer["tonnage"] = dict(zip(("title", "names", "rows"), (TITLE, *texts_of(tonnage))))
         if found.parts.economics and found.parts.economics.forbid:
-            told["forbidden"] = int(found.priced.forbidden.sum())
-    return {**told, "seconds": round(time.monotonic() - began, 2)}
+            answer["forbidden"] = int(found.priced.forbidden.sum())
+    return {**answer, "seconds": round(time.monotonic() - began, 2)}
 
 
-def overview(study: Path) -> _Told:
+def overview(study: Path) -> _Json:
     """How far a study is, by its files; `said` is a kind of mark, its words and what they stand for."""
-    told: _Told = {"built": False, "old": None, "there": 0, "said": ["", "not built yet"]}
-    told["when"] = (study / "study.toml").stat().st_mtime
+    answer: _Json = {"built": False, "old": None, "there": 0, "said": ["", "not built yet"]}
+    answer["when"] = (study / "study.toml").stat().st_mtime
     try:
         built = Study(study)
     except PlanError:
-        return told
-    told |= {name: (study / path).is_file() for name, path in _KEPT.items()} | {"built": True}
-    told |= {"blocks": built.manifest["blocks"], "currency": built.currency}
+        return answer
+    answer |= {name: (study / path).is_file() for name, path in _KEPT.items()} | {"built": True}
+    answer |= {"blocks": built.manifest["blocks"], "currency": built.currency}
     try:
         file = read_study_file(study)
         built.refuse_changed(file.path, file.digest, file.table)
     except PlanError as error:
         said = ["warn", "changed since it was built", error.said]
-        return {**told, "old": error.said, "said": said}
+        return {**answer, "old": error.said, "said": said}
     verdicts = {factor: found for factor in file.factors if (found := built.verdict(factor))}
-    full, there, of = verdicts.get(1000), len(verdicts), len(file.factors)
+    full, there, of = verdicts.get(THOUSAND), len(verdicts), len(file.factors)
     certified = sum(bool(found["certificate"]) for found in verdicts.values())
     more = f", {certified} with certificates" if certified else ""
     said = ["good" if there == of else "warn", f"{there} of {of} pits proved{more}"]
     return {
-        **told,
+        **answer,
         "there": there,
-        "said": said if there else ["", f"built, {told['blocks']:,} blocks"],
-        "factors": [factor / 1000 for factor in verdicts],
+        "said": said if there else ["", f"built, {answer['blocks']:,} blocks"],
+        "factors": [factor / THOUSAND for factor in verdicts],
         "worth": full and float(full["worth"]),
         "pit": full and full["count"],
     }
 
 
-def kind_of(design: Path, name: str, study: Path) -> _Told:
+def kind_of(design: Path, name: str, study: Path) -> _Json:
     """What a dropped design is, where that can be told: a surface or ids. A DXF without faces is an
-    error, and so are words that are no ids of the study's table, built or not."""
+    error, and so are words that are no ids of the study's table, built or not. Raises PlanError
+    where it is neither."""
     try:
         if design.suffix.lower() == ".dxf":
             of_dxf(design)
@@ -241,7 +246,7 @@ def _model_at_hand(study: Path) -> Any:
     return None
 
 
-def rose(study: Path) -> _Told:
+def rose(study: Path) -> _Json:
     """What `pitplan slopes` says: the walls that are asked for and those that would be built, by bearing."""
     file = read_study_file(study)
     grid, slopes, unit = file.grid(), file.slopes, Units(**file.keys.units).length
@@ -257,7 +262,7 @@ def rose_picture(study: Path) -> bytes:
 
 
 def ground(study: Path, what: str) -> bytes:
-    """The model from above, as PNG."""
+    """The model from above, as PNG. Raises PlanError where the table can't be read yet."""
     model = _kept_model(parts := parts_of_file(study))
     if model is None or parts.keys is None:
         raise PlanError("the table can't be read yet")
@@ -271,7 +276,7 @@ def _png(figure: Any) -> bytes:
     return image.getvalue()
 
 
-def cells(study: Path, row: str) -> _Told:
+def cells(study: Path, row: str) -> _Json:
     """The header and the rows about one: what an error names."""
     table, model = _table_of(study)
     return {"rows": rows_about(table, int(row), model.get("encoding") or "utf-8-sig", _WIDEST)}

@@ -52,7 +52,7 @@ class Worker:
                 self.end(pool)
                 said = f"that took longer than {PATIENCE} seconds, and was ended"
                 break
-        return Refused(503, said, "the same once more").told
+        return Refused(503, said, "the same once more").answer
 
     def end(self, pool: ProcessPoolExecutor | None = None) -> None:
         """Ends the process, whatever it does."""
@@ -78,8 +78,7 @@ def settle(root: Path) -> None:
 
 
 def _end_with_the_desk() -> None:
-    """Waits for the desk's end, and ends this process. Linux's own signal would come when the thread
-    ends that began it."""
+    """Waits for the desk's end, and ends this process. Linux's own signal comes by thread."""
     desk = multiprocessing.parent_process()
     assert desk is not None
     desk.join()
@@ -92,4 +91,4 @@ def answered(do: _Do, *words: Any) -> Any:
         do = getattr(import_module(f"{__package__}.work"), do) if isinstance(do, str) else do
         return do(*words)
     except Exception as error:  # some can't be told from process to process
-        return refused(error).told
+        return refused(error).answer

@@ -1,9 +1,10 @@
-"""A block model on a regular grid, with what each block brings and costs."""
+"""A block model on a regular grid: rows, gaps and sub-blocks, what each block weighs, brings and
+costs, its class, and how a model is kept."""
 from __future__ import annotations
 
 from typing import TYPE_CHECKING
 
-from ..base.door import door
+from ..base.public_names import door
 
 if TYPE_CHECKING:
     from .economics import Economics as Economics, Metal as Metal, Process as Process

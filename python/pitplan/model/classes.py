@@ -11,7 +11,8 @@ import numpy as np
 import pandas as pd
 
 from ..base.arrays import Bools, Floats, Ints
-from ..base.errors import PlanError, meant
+from ..base.errors import PlanError
+from ..base.near_words import meant
 from ..table.column_names import MOST_CLASSES, columns_with
 from ..table.formula import text_of
 from .model import Model
@@ -78,7 +79,10 @@ def classes_of(model: Model, listed: Sequence[str] = ()) -> Classes | None:
     count = len(set(names) - {_NONE})
     if count > MOST_CLASSES:
         raise PlanError(
-            f"[model] columns, class: column {column} has {count:,} words, as {', '.join(names[:3])}, and more than {MOST_CLASSES} are no resource classes",
+            (
+                f"[model] columns, class: column {column} has {count:,} words, as"
+                f" {', '.join(names[:3])}, and more than {MOST_CLASSES} are no resource classes"
+            ),
             table=model.table,
             try_this="the column of measured, indicated and inferred; or leave class out",
             key=("model", "columns", CLASS),

@@ -13,7 +13,7 @@ import numpy as np
 import pandas as pd
 
 from ..base.arrays import Bools, Floats, Ints
-from ..base.amounts import LARGEST_FACTOR, MOST, THOUSAND, Priced, Way, exact_sum, rounding_of
+from ..base.amounts import LARGEST_FACTOR, MOST_WORTH, THOUSAND, Priced, Way, exact_sum, rounding_of
 from ..base.errors import (
     MOST_CELLS,
     Cell,
@@ -23,11 +23,9 @@ from ..base.errors import (
     Remedy,
     about,
     in_table,
-    meant,
-    near_to,
-    spelled,
-    swap_of,
+    toml_spelled,
 )
+from ..base.near_words import meant, near_to, swap_of
 from ..base.units import metal_in_a_tonne
 from ..table.column_names import AIR
 from ..table.csv_text import not_estimated
@@ -42,6 +40,8 @@ from .weights import ore_part
 
 _BARE = re.compile(r"[A-Za-z0-9_-]+")  # a key of TOML that needs no quotes
 _WASTE = ("", "waste", "forbidden")  # where a block goes that no process gets
+_LIMITS = ("mining", "sink")  # what else limits a period, in the column ``binds`` of a schedule
+NAME_SEPARATOR = "; "  # between names in one cell of a table
 _MILL = "mill"  # the name of the way of a study without processes
 # A number, a column of the table, a formula over columns, or a number by rock with "other" for the rest.
 Amount = Union[float, str, Mapping[str, float]]
@@ -99,7 +99,8 @@ class Process:
     Parameters
     ----------
     name : str
-        None of `_WASTE`, which say where other blocks go.
+        None of `_WASTE`, which say where other blocks go, and none of `_LIMITS`; without a
+        semicolon, which stands between names in a cell.
     cost : number, column, formula, or mapping by rock
         What treating a tonne of its feed costs.
     rocks : sequence of str, optional
@@ -126,7 +127,8 @@ class Process:
     def __post_init__(self) -> None:
         at = ("economics", PROCESSES, self.name)
         refuse_wrong(PROCESSES, vars(self), f"[economics] process {self.name}", at)
-        if self.name in _WASTE or not self.name.isprintable():
+        is_taken = self.name in (*_WASTE, *_LIMITS)
+        if is_taken or ";" in self.name or not self.name.isprintable():
             raise PlanError(
                 f"[economics] a process is called {self.name!r}, and tables need another name for it",
                 try_this='name = "leach"',
@@ -293,7 +295,10 @@ class Economics:
             for key, table in (("recovery", process.recovery), ("payable", process.payable)):
                 wrong.add(
                     PlanError(
-                        f"[economics] process {process.name}: {key} names {name!r}, and no metal is called so{meant(name, sold)}",
+                        (
+                            f"[economics] process {process.name}: {key} names {name!r}, and no"
+                            f" metal is called so{meant(name, sold)}"
+                        ),
                         try_this=", ".join(sold),
                         key=("economics", PROCESSES, process.name, key),
                     )
@@ -348,8 +353,15 @@ class Economics:
             return 1.0
         if metal.currency not in self.exchange:
             raise PlanError(
-                f"[economics] metal {metal.name}: currency is {metal.currency!r}, and exchange says nothing of it{meant(metal.currency, [self.currency, *self.exchange])}",
-                try_this=f"exchange = {{ {json.dumps(metal.currency, ensure_ascii=False)} = .. }} in [economics]: what one is worth in {self.currency}",
+                (
+                    f"[economics] metal {metal.name}: currency is {metal.currency!r}, and"
+                    " exchange says nothing of"
+                    f" it{meant(metal.currency, [self.currency, *self.exchange])}"
+                ),
+                try_this=(
+                    f"exchange = {{ {json.dumps(metal.currency, ensure_ascii=False)} = .. }} in"
+                    f" [economics]: what one is worth in {self.currency}"
+                ),
             )
         return float(self.exchange[metal.currency])
 
@@ -612,7 +624,7 @@ def _wrong_grade(metal: Metal, model: Model, grades: Floats, wrong: Bools) -> Pl
     ).with_cells(cells)
 
 
-def amount(what: str, given: Amount, model: Model, rocks: Sequence[str] | None = None) -> Floats:
+def amount(what: str, stated: Amount, model: Model, rocks: Sequence[str] | None = None) -> Floats:
     """An amount for each block: a number, a column, a formula, or by rock; `rocks` are those that a
     table by rock is asked for, None of all but air. Blocks of others get 0 by it.
 
@@ -622,42 +634,42 @@ def amount(what: str, given: Amount, model: Model, rocks: Sequence[str] | None =
         Where nothing is said of a rock, a cell is no number, or a formula is none.
     """
     b = model.blocks
-    if isinstance(given, bool) or not isinstance(given, (int, float, str, Mapping)):
+    if isinstance(stated, bool) or not isinstance(stated, (int, float, str, Mapping)):
         raise PlanError(
-            f"{what} is {given!r}",
+            f"{what} is {stated!r}",
             try_this="a number, a column, a formula, or { rock = number, other = number }",
         )
-    if isinstance(given, (int, float)):
-        return np.full(len(b), float(given))
-    if isinstance(given, str):
+    if isinstance(stated, (int, float)):
+        return np.full(len(b), float(stated))
+    if isinstance(stated, str):
         return (
-            model.numbers(given, what)
-            if given in b.columns
-            else _of_formula(given, model, what).astype(float)
+            model.numbers(stated, what)
+            if stated in b.columns
+            else _of_formula(stated, model, what).astype(float)
         )
     kinds = [str(kind) for kind in b.rock.unique()]
-    _refuse_rocks(what, given, model, kinds, rocks)
+    _refuse_rocks(what, stated, model, kinds, rocks)
     found: Floats = b.rock.map(
-        {kind: float(given.get(kind, given.get("other", 0.0))) for kind in kinds}
+        {kind: float(stated.get(kind, stated.get("other", 0.0))) for kind in kinds}
     ).to_numpy(float)
     return found
 
 
 def _refuse_rocks(
     what: str,
-    given: Mapping[str, float],
+    by_rock: Mapping[str, float],
     model: Model,
     kinds: Sequence[str],
     rocks: Sequence[str] | None,
 ) -> None:
-    """Refuses a table by rock that says nothing of a rock that it is asked for, or names one that no block is of: with
-    "other" that would count as one of the others. Each of them is told."""
+    """Refuses a table by rock that says nothing of a rock that it is asked for, or names one that
+    no block is of: with "other" that would count as one of the others. Each of them is told."""
     wrong = Gathered()
-    absent = sorted(set(kinds) - set(given) - {AIR}) if "other" not in given else []
+    absent = sorted(set(kinds) - set(by_rock) - {AIR}) if "other" not in by_rock else []
     unsaid = [rock for rock in absent if rocks is None or rock in rocks]
-    unknown = [name for name in given if name not in (*kinds, "other", AIR)]
+    unknown = [name for name in by_rock if name not in (*kinds, "other", AIR)]
     with wrong.part():
-        _refuse_misspelt(what, given, kinds, absent)
+        _refuse_misspelt(what, by_rock, kinds, absent)
         if unsaid:
             first = _row_at(model, int(np.argmax(model.blocks.rock == unsaid[0])))
             named = ", ".join(rock or "without a name, an empty cell" for rock in unsaid)
@@ -665,12 +677,16 @@ def _refuse_rocks(
                 f"{what}: nothing is said of rock {named}",
                 table=model.table,
                 row=first,
-                try_this=f"{{ {unsaid[0] if _BARE.fullmatch(unsaid[0]) else json.dumps(unsaid[0], ensure_ascii=False)} = .. }}, or {{ other = .. }} for the rest",
+                try_this=(
+                    f"{{"
+                    f" {unsaid[0] if _BARE.fullmatch(unsaid[0]) else json.dumps(unsaid[0], ensure_ascii=False)}"
+                    f" = .. }}, or {{ other = .. }} for the rest"
+                ),
             )
-    for rock, value in given.items():
+    for rock, value in by_rock.items():
         with wrong.part():
             _number(f"{what} of rock {rock}", value, -math.inf)
-    if "other" in given:
+    if "other" in by_rock:
         wrong.add(
             PlanError(
                 f"{what}: no block is of rock {rock!r}{meant(rock, kinds)}",
@@ -681,17 +697,19 @@ def _refuse_rocks(
 
 
 def _refuse_misspelt(
-    what: str, given: Mapping[str, float], kinds: Sequence[str], unsaid: Sequence[str]
+    what: str, by_rock: Mapping[str, float], kinds: Sequence[str], unsaid: Sequence[str]
 ) -> None:
     """Refuses a name of no rock that looks like that of one of which nothing is said."""
-    near = {name: near_to(name, unsaid) for name in given if name not in kinds}
+    near = {name: near_to(name, unsaid) for name in by_rock if name not in kinds}
     meant = {name: rock for name, rock in near.items() if rock}
     if meant:
         raise PlanError(
             f"{what}: no block is of rock {', '.join(map(repr, meant))}; "
             + ("is" if len(meant) == 1 else "are")
             + f" {', '.join(map(repr, meant.values()))} meant?",
-            try_this=spelled({meant.get(rock, rock): value for rock, value in given.items()}),
+            try_this=toml_spelled(
+                {meant.get(rock, rock): value for rock, value in by_rock.items()}
+            ),
         ).with_swap(next(iter(meant.items())) if len(meant) == 1 else None)
 
 
@@ -730,7 +748,10 @@ def holds(formula: str, model: Model) -> tuple[Bools, Bools]:
         block = np.concatenate([parts.parent, block[is_added]])
     elif model.has_sub_blocks:
         raise PlanError(
-            f"[economics] forbid = {formula!r}: for which sub-blocks does it hold? A model that was built doesn't have them any more",
+            (
+                f"[economics] forbid = {formula!r}: for which sub-blocks does it hold? A model"
+                " that was built doesn't have them any more"
+            ),
             try_this="read the table again, and build",
         )
     with in_table(model.table):
@@ -745,17 +766,17 @@ def holds(formula: str, model: Model) -> tuple[Bools, Bools]:
     return each, rows
 
 
-def _refuse_shares(what: str, given: Amount, key: KeyPath) -> None:
+def _refuse_shares(what: str, stated: Amount, key: KeyPath) -> None:
     """Refuses shares that stand in study.toml itself and aren't from 0 to 1: no row of the table is
     to blame."""
-    if isinstance(given, str):
+    if isinstance(stated, str):
         return
-    by_rock = given if isinstance(given, Mapping) else {"": given}
+    by_rock = stated if isinstance(stated, Mapping) else {"": stated}
     for rock, value in by_rock.items():
         if not 0 <= value <= 1:
             better = {name: of_percent(each) for name, each in by_rock.items()}
-            of_rock = f" of rock {rock}" if isinstance(given, Mapping) else ""
-            right = Remedy(key, better if isinstance(given, Mapping) else better[rock])
+            of_rock = f" of rock {rock}" if isinstance(stated, Mapping) else ""
+            right = Remedy(key, better if isinstance(stated, Mapping) else better[rock])
             raise PlanError(
                 f"{what}{of_rock} is {value:g}, and a share is from 0 to 1",
                 try_this=right if 0 <= better[rock] <= 1 else None,
@@ -776,13 +797,13 @@ def _share(what: str, values: Floats, model: Model) -> Floats:
     return values
 
 
-def _cost(what: str, given: Amount, model: Model, rocks: Sequence[str] | None = None) -> Floats:
+def _cost(what: str, stated: Amount, model: Model, rocks: Sequence[str] | None = None) -> Floats:
     """What a tonne costs, at least 0."""
     said = what.removesuffix(" cost")  # a process costs so much, and not its cost
-    for value in given.values() if isinstance(given, Mapping) else [given]:
+    for value in stated.values() if isinstance(stated, Mapping) else [stated]:
         if isinstance(value, (int, float)) and value < 0:
             raise PlanError(f"{said} costs {value:g} a tonne, less than nothing")
-    values = amount(what, given, model, rocks)
+    values = amount(what, stated, model, rocks)
     wrong = values < 0
     if wrong.any():
         at = int(np.argmax(wrong))
@@ -791,8 +812,8 @@ def _cost(what: str, given: Amount, model: Model, rocks: Sequence[str] | None = 
             + (f", and so for {int(wrong.sum()):,} blocks" if wrong.sum() > 1 else ""),
             table=model.table,
             row=_row_at(model, at),
-            try_this=f"max(0, {given}), if the formula runs below 0"
-            if isinstance(given, str)
+            try_this=f"max(0, {stated}), if the formula runs below 0"
+            if isinstance(stated, str)
             else None,
         )
     return values
@@ -808,7 +829,7 @@ def _in_whole(
 ) -> Ints:
     """Amounts in whole multiples of `rounding`, half to even; `key` is where they are said, unless
     it is the key of that name."""
-    most = float(MOST)
+    most = float(MOST_WORTH)
     if not np.abs(values).max(initial=0.0) <= most:  # so also where a product is no number
         at = int(np.argmax(np.abs(values)))
         raise PlanError(
@@ -833,8 +854,8 @@ def fence_price(priced: Priced, rounding: Decimal) -> int:
     """
     most = exact_sum(priced.most_revenue)
     price = most * LARGEST_FACTOR // THOUSAND + 1
-    if price * rounding > MOST:
-        price = int(MOST / rounding)
+    if price * rounding > MOST_WORTH:
+        price = int(MOST_WORTH / rounding)
         if price <= 2 * most:
             raise PlanError(
                 "[economics] forbid: the mine brings too much for an amount that keeps blocks from being dug",

@@ -10,7 +10,7 @@ import numpy as np
 import pandas as pd
 
 from ..base.arrays import Bools
-from ..base.errors import MOST_PLACES, PlanError, Remedy, spelled
+from ..base.errors import MOST_PLACES, PlanError, Remedy, toml_spelled
 from ..table.column_names import AIR
 from .grid import Grid
 
@@ -92,7 +92,7 @@ def close(model: Model, missing: str, fill: Mapping[str, Any], table: str) -> No
             table=table,
             try_this=(
                 'missing = "air" in [model] (old workings), or missing = "rock" with fill ='
-                f" {spelled(filled.value)}"
+                f" {toml_spelled(filled.value)}"
             ),
         ).with_places(places).with_remedy(
             Remedy(_MISSING, "rock", "if these are rock", other="air", also=(filled,))

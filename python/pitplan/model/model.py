@@ -11,7 +11,8 @@ import numpy as np
 import pandas as pd
 
 from ..base.arrays import Array, Bools, Floats, Indices, Ints
-from ..base.errors import Gathered, PlanError, Remedy, about, meant
+from ..base.errors import Gathered, PlanError, Remedy, about
+from ..base.near_words import meant
 from ..table.column_names import (
     PLACES,
     SIZES,
@@ -291,12 +292,12 @@ def read_with(path: Path, keys: TableKeys) -> Model:
         blocks,
         grid,
         path.name.removesuffix(".gz").removesuffix(".csv"),
-        notes,
-        names,
-        row_block,
-        keys.z == "depth",
-        path,
-        keys.absent,
+        notes=notes,
+        columns=names,
+        row_block=row_block,
+        depth=keys.z == "depth",
+        source=path,
+        absent=keys.absent,
         unweighed=unweighed,
         units=units,
         absent_cells=absent_cells,
@@ -616,7 +617,10 @@ def _twins(flat: Ints, rows: pd.Index, column: str, table: str) -> None:
             table=table,
             row=second,
             column=column,
-            try_this="take one of the rows out; or regularise = true in [model], with the columns dx, dy and dz, if these are sub-blocks",
+            try_this=(
+                "take one of the rows out; or regularise = true in [model], with the columns"
+                " dx, dy and dz, if these are sub-blocks"
+            ),
             key=("model", "table"),
         )
 
@@ -631,7 +635,10 @@ def _light(blocks: pd.DataFrame) -> list[str]:
     ) + (", .." if len(rocks) > 3 else "")
     count = int(rocks.sum())
     return [
-        f"{count:,} {'rows weigh' if count > 1 else 'row weighs'} nothing, and {'count' if count > 1 else 'counts'} as air: {named}"
+        (
+            f"{count:,} {'rows weigh' if count > 1 else 'row weighs'} nothing, and"
+            f" {'count' if count > 1 else 'counts'} as air: {named}"
+        )
     ]
 
 
@@ -664,12 +671,16 @@ def _weights_of(
         found = number_column(frame[names[key]], table, absent, NO_WEIGHT)
     if (found < 0).any():
         row = int(np.argmax(found < 0))
+        others, mark = found[found > 0], str(not_estimated(f"{found[row]:g}", absent))
+        is_slip = len(others) > 0 and others.min() <= -found[row] <= others.max()
         raise PlanError(
             f"{found[row]:g} is less than nothing",
             table=table,
             row=int(frame.index[row]),
             column=names[key],
-            try_this=str(not_estimated(f"{found[row]:g}", absent)),
+            try_this=f"{-found[row]:g} in that cell, if the sign is a slip; or {mark}: it weighs nothing then"
+            if is_slip
+            else mark,
         )
     return found
 

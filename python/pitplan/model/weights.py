@@ -9,7 +9,7 @@ import numpy as np
 import pandas as pd
 
 from ..base.arrays import Bools, Floats
-from ..base.errors import MOST_CELLS, Cell, PlanError, about, spelled
+from ..base.errors import MOST_CELLS, Cell, PlanError, about, toml_spelled
 from ..table.csv_text import NO_WEIGHT, number_column
 from ..table.formula import names_in, worked_out
 
@@ -35,7 +35,10 @@ def weighed(
     share = names.get(TOPOGRAPHY)
     if keys.regularise and ORE in names:
         raise PlanError(
-            f"columns: ore = {spelled(names[ORE])} isn't taken with regularise: of sub-blocks that are ore in part no grade of the block follows",
+            (
+                f"columns: ore = {toml_spelled(names[ORE])} isn't taken with regularise: of"
+                " sub-blocks that are ore in part no grade of the block follows"
+            ),
             table=table,
             try_this="grades of all tonnes of a sub-block, and no column of ore",
             key=("model", "columns", ORE),

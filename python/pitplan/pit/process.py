@@ -16,7 +16,7 @@ from typing import Union
 
 from ..base.errors import Killed, MachineError, PlanError
 from ..base.files import ROOM
-from ..base.stops import raise_if_asked
+from ..base.interrupts import raise_if_asked
 
 Heard = Callable[[str], None]  # a line of `--progress`
 Word = Union[str, int, Path]
@@ -105,7 +105,7 @@ class Process:
         out : Path, optional
             The file that its standard output is written to.
         heard : function, optional
-            Is told each line that says how far it is.
+            Called with each line that says how far it is.
         fed : iterable of bytes, optional
             What it gets on its standard input; all of it is gone through, also where `pit` reads no
             more.
@@ -150,7 +150,7 @@ class Process:
             return text
         raise self.ended(str(words[0]), status, " ".join(lines))
 
-    def started(self, words: Sequence[Word], output: int, given: int) -> subprocess.Popen[bytes]:
+    def started(self, words: Sequence[Word], output: int, stdin: int) -> subprocess.Popen[bytes]:
         """Starts `pit`, so that it ends when this process does: setpriv is of util-linux, which
         Debian always has. Raises MachineError where it can't be started, and KeyboardInterrupt
         after `stop`."""
@@ -164,7 +164,7 @@ class Process:
                 # ctrl-C is for this process, which ends it
                 run = subprocess.Popen(
                     [*before, self.program, *map(str, words)],
-                    stdin=given,
+                    stdin=stdin,
                     stdout=output,
                     stderr=subprocess.PIPE,
                     env=_with_large_pages(os.environ),

@@ -19,13 +19,14 @@ from ..base.errors import Disagreement, NotAccepted, PlanError
 from ..base.units_shown import share_text
 from .certificate_lines import PitLines, packed, refuse_other_count
 from .process import Heard, OutOfTime, Process, Word, hint_of, left_until
-from .scheduled import Scheduled
-from .valued import Valued
+from .schedule_answer import Scheduled
+from .value_answer import Valued
 
 _Progress = Callable[[int, int], None]
-_PIECE = 1 << 20
+_CHUNK_SIZE = 1 << 20  # bytes of a certificate that are read at a time
 BEGUN = object()  # what only Pit.check hands to an Accepted, and Pit.series to a Stated
 MOST_FACTORS = 64  # of one run of `pit shells`
+_FULL_PRICE = 1000  # the factor in thousandths
 _ABOVE = 1 << 30  # of a block that no pit of a series has: above all factors
 
 
@@ -113,64 +114,57 @@ class Stated:
 
 @dataclass(frozen=True)
 class Files:
-    """The two files of a model with a mill: what each block brings and costs, and settings, whose
-    slopes say which blocks go before it."""
+    """The files of a model with a mill or ways: what each block brings and costs, and settings, whose
+    slopes say which blocks go before it, or else a list that does."""
 
     blocks: Path
     settings: Path
-    after = ""  # of the line of acceptance
+    prec: Path | None = None
 
     def words(self) -> list[Word]:
-        return ["--blocks", self.blocks, "--settings", self.settings]
-
-
-@dataclass(frozen=True)
-class Texts:
-    """The two files of a mine of which each block has one worth."""
-
-    prec: Path
-    upit: Path
-    after = " GROUP WORTH"  # of the line of acceptance, since worths alone are counted
-
-    def words(self) -> list[Word]:
-        return ["--prec", self.prec, "--upit", self.upit]
+        listed: list[Word] = ["--prec", self.prec] if self.prec else []
+        return [*listed, "--blocks", self.blocks, "--settings", self.settings]
 
 
 @dataclass(frozen=True)
 class Periodic:
-    """Such a mine with what its blocks use, a `.blocks` file, and its periods with multipliers."""
+    """A model at the full price with what its blocks use, a `.blocks` file, and its periods; and the
+    certificate of its best pit, where the bound is to be of that pit's blocks."""
 
-    texts: Texts
+    files: Files
     uses: Path
     periods: Path
+    pit: Path | None = None
 
     def words(self) -> list[Word]:
-        return [*self.texts.words(), "--uses", self.uses, "--periods", self.periods]
+        return [*self.files.words(), "--uses", self.uses, "--periods", self.periods]
+
+    def within(self) -> list[Word]:
+        return ["--pit", self.pit] if self.pit else []
 
 
 @dataclass(frozen=True)
-class Richest:
-    """The richest pit of such a mine, or of its blocks and periods, as `pit check` or `pit bound` has
-    accepted it. `Pit.richest` and `Pit.bound` alone make one.
+class Bounded:
+    """What `pit bound` says of a certificate. `Pit.bound` alone makes one.
 
     Attributes
     ----------
-    worth : str
-        What it is worth: no closed set of blocks is worth more. By `pit bound`, what no schedule is.
-    blocks : int array
-        The numbers of its blocks, ascending.
+    said : str
+        What no feasible schedule is worth more than.
+    nodes : int array
+        The richest pit of the mine of blocks and periods: the numbers of its nodes, ascending.
     certificate : str
         The sha256 of the certificate.
     """
 
-    worth: str
-    blocks: Ints
+    said: str
+    nodes: Ints
     certificate: str
     begun: InitVar[object] = None
 
     def __post_init__(self, begun: object) -> None:
         if begun is not BEGUN:
-            raise TypeError("a Richest is made by Pit.richest alone")
+            raise TypeError("a Bounded is made by Pit.bound alone")
 
 
 class Pit(Process):
@@ -191,7 +185,7 @@ class Pit(Process):
 
     def slopes(self, files: Files, out: Path) -> None:
         """Writes the predecessors of each block as a `.prec` file, by the slopes of a model's
-        settings: for programs that read no slopes, and for lists that go on behind it.
+        settings: for programs that read no slopes, and for lists that go on after it.
 
         Raises
         ------
@@ -206,7 +200,7 @@ class Pit(Process):
         factor: int,
         certificate: Path,
         progress: _Progress | None = None,
-        keeps: bool = True,
+        keeps_certificate: bool = True,
     ) -> Accepted:
         """The best pit at a factor: its certificate is written, then checked as the file that was
         written, and kept packed.
@@ -218,8 +212,8 @@ class Pit(Process):
         certificate : Path
             The file to write; when it is done, it lies packed at the same name with ``.gz`` added.
         progress : function, optional
-            Is told how many blocks of how many are settled.
-        keeps : bool
+            Called with how many blocks of how many are settled.
+        keeps_certificate : bool
             Whether the certificate is kept; otherwise only its digest is.
 
         Raises
@@ -237,7 +231,7 @@ class Pit(Process):
             raise NotAccepted(
                 f"pit solve at factor {share_text(factor)}: {said.strip()}", try_this=hint_of(said)
             )
-        with packed(certificate) if keeps else nullcontext() as kept:
+        with packed(certificate) if keeps_certificate else nullcontext() as kept:
             found = self.check(files, certificate, kept)
         certificate.unlink()
         return found
@@ -266,29 +260,26 @@ class Pit(Process):
 
     def judged(
         self,
-        files: Files | Texts,
+        files: Files,
         certificate: Path,
         lines: PitLines,
         kept: gzip.GzipFile | None = None,
-        seconds: float | None = None,
     ) -> tuple[int, str]:
         """What `pit check` says of a certificate: how many blocks its pit has, and what it is
-        worth. `lines` takes in the same bytes. After some seconds it is ended, where they are given.
+        worth. `lines` takes in the same bytes.
 
         Raises
         ------
         NotAccepted
             Where it doesn't answer ACCEPTED.
-        OutOfTime
-            Where it was ended.
         """
-        line = self.told_of(["check", *files.words()], certificate, lines, kept, seconds)
-        found = re.fullmatch(r"ACCEPTED (\d+) (-?[\d.]+)" + files.after, line)
+        line = self.answer_of(["check", *files.words()], certificate, lines, kept)
+        found = re.fullmatch(r"ACCEPTED (\d+) (-?[\d.]+)", line)
         if not found:
             raise NotAccepted(f"pit check: {line}", try_this=hint_of(line))
         return int(found[1]), found[2]
 
-    def told_of(
+    def answer_of(
         self,
         words: Sequence[Word],
         certificate: Path,
@@ -306,7 +297,7 @@ class Pit(Process):
                 if certificate.suffix == ".gz"
                 else open(certificate, "rb")
             ) as file:
-                while data := file.read(_PIECE):
+                while data := file.read(_CHUNK_SIZE):
                     if time.monotonic() >= ends:
                         raise OutOfTime
                     lines.take(data)
@@ -316,15 +307,16 @@ class Pit(Process):
 
         return self.run([*words, "--verbose", "/dev/stdin"], fed=pieces(), seconds=seconds).strip()
 
-    def richest(
-        self, texts: Texts, certificate: Path, seconds: float | None = None
-    ) -> Richest | None:
-        """Finds the richest pit of a mine of which each block has one worth, and lets `pit check`
-        judge it.
+    def bound(
+        self, mine: Periodic, certificate: Path, seconds: float | None = None
+    ) -> Bounded | None:
+        """Finds the richest pit of a mine's blocks and periods, node t * n + b for block b of n by
+        the end of period t, and lets `pit bound` judge it. With a pit these are its blocks,
+        numbered by their order.
 
         Parameters
         ----------
-        texts : Texts
+        mine : Periodic
         certificate : Path
             The file to write; when it is done, it lies packed at the same name with ``.gz`` added.
         seconds : float, optional
@@ -334,57 +326,29 @@ class Pit(Process):
         Raises
         ------
         NotAccepted
-            Where there was no certificate, or the check refuses it.
+            Where there was no certificate, or `pit bound` refuses it.
         """
         ends = None if seconds is None else time.monotonic() + seconds
-        if not self.solved([*texts.words(), "--group", "worth"], certificate, seconds):
+        both = [*mine.words(), *mine.within()]
+        if not self.solved([*both, "--factor", _FULL_PRICE], certificate, seconds):
             return None
         lines = PitLines()
         try:
             with packed(certificate) as kept:
-                count, worth = self.judged(texts, certificate, lines, kept, left_until(ends))
-        except OutOfTime:
-            return None
-        certificate.unlink()
-        blocks = lines.numbers()
-        refuse_other_count(count, blocks)
-        return Richest(worth, blocks, lines.digest.hexdigest(), BEGUN)
-
-    def bound(
-        self, mine: Periodic, certificate: Path, seconds: float | None = None
-    ) -> Richest | None:
-        """Finds the richest pit of a mine's blocks and periods, node t * n + b for block b of n by
-        the end of period t, and lets `pit bound` judge it: `worth` is the bound that it says.
-
-        Parameters
-        ----------
-        mine : Periodic
-        certificate, seconds
-            As of `richest`.
-
-        Raises
-        ------
-        NotAccepted
-            As `richest`.
-        """
-        ends = None if seconds is None else time.monotonic() + seconds
-        if not self.solved(mine.words(), certificate, seconds):
-            return None
-        lines = PitLines()
-        words: list[Word] = ["bound", *mine.words()]
-        try:
-            with packed(certificate) as kept:
-                line = self.told_of(words, certificate, lines, kept, left_until(ends))
+                words: list[Word] = ["bound", *both]
+                line = self.answer_of(words, certificate, lines, kept, left_until(ends))
         except OutOfTime:
             return None
         found = re.fullmatch(r"BOUND (-?[\d.]+)", line)
         if not found:
             raise NotAccepted(f"pit bound: {line}", try_this=hint_of(line))
         certificate.unlink()
-        return Richest(found[1], lines.numbers(), lines.digest.hexdigest(), BEGUN)
+        return Bounded(found[1], lines.numbers(), lines.digest.hexdigest(), BEGUN)
 
-    def solved(self, words: Sequence[Word], certificate: Path, seconds: float | None) -> bool:
-        """Writes what `pit solve` finds; false where that takes longer.
+    def solved(
+        self, words: Sequence[Word], certificate: Path, seconds: float | None = None
+    ) -> bool:
+        """Writes what `pit solve` finds; false where that takes longer than some seconds.
 
         Raises
         ------
@@ -399,25 +363,28 @@ class Pit(Process):
             raise NotAccepted(f"pit solve: {said.strip()}", try_this=hint_of(said))
         return True
 
-    def schedule(
-        self, files: Files | Texts, factor: int | None, uses: Path, periods: Path, schedule: Path
-    ) -> Scheduled:
-        """Lets `pit schedule` judge a schedule at a factor.
+    def best_of(self, mine: Periodic) -> None:
+        """Writes the certificate of a mine's best pit, which it names."""
+        assert mine.pit is not None
+        self.solved([*mine.files.words(), "--factor", _FULL_PRICE], mine.pit)
+
+    def schedule(self, mine: Periodic, schedule: Path, best: Path | None = None) -> Scheduled:
+        """Lets `pit schedule` judge a schedule at the full price, with the certificate of a bound
+        beside the bound too.
 
         Parameters
         ----------
-        factor : int, optional
-            Of the revenue, in thousandths; None of a mine of which each block has one worth.
-        uses : Path
-            A `.blocks` file with what each block uses.
-        periods : Path
-            What periods weigh and have, as `pit` reads it.
+        mine : Periodic
         schedule : Path
-            A text with the number of a block and its period in each line.
+            A text with the number of a block, its period and, where that is chosen, its way in each
+            line.
+        best : Path, optional
+            As `pit solve --periods` wrote it.
         """
-        priced: list[Word] = [] if factor is None else ["--factor", factor]
-        words: list[Word] = [*files.words(), *priced, "--uses", uses]
-        said = self.run(["schedule", *words, "--periods", periods, "--verbose", schedule])
+        priced: list[Word] = ["--factor", _FULL_PRICE]
+        if best:
+            priced = ["--best", best, *mine.within()]
+        said = self.run(["schedule", *mine.words(), *priced, "--verbose", schedule])
         return Scheduled.of_answer(said, hint_of(said))
 
     def value(self, files: Files, design: Path, certificate: Path) -> Valued:
@@ -465,7 +432,7 @@ class Pit(Process):
         workers : int
             Factors that are solved at a time.
         proved : function, optional
-            Is told each factor whose pit is proved.
+            Called with each factor whose pit is proved.
 
         Raises
         ------

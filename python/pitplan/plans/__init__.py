@@ -1,9 +1,9 @@
-"""What is asked of proved pits: pushbacks, widths, designs, what-ifs, realisations."""
+"""What is asked of proved pits: pushbacks, widths, designs, what-ifs, realisations of the grades."""
 from __future__ import annotations
 
 from typing import TYPE_CHECKING
 
-from ..base.door import door
+from ..base.public_names import door
 
 if TYPE_CHECKING:
     from .compare import Comparison as Comparison

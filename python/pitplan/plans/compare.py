@@ -24,16 +24,16 @@ from ..base.arrays import Bools
 from ..base.errors import Disagreement
 from ..base.next_command import command
 from ..base.units_shown import printed_scale
-from ..pit.valued import Valued
+from ..pit.value_answer import Valued
 from ..study.reserves import reserves
-from ..study.resting import Resting
+from ..study.predecessors import Resting
 from . import walls
 from .design import Design
 
 if TYPE_CHECKING:
     from ..study.study import Study
 
-_PIECE = 1 << 22
+_CHUNK_SIZE = 1 << 22  # bytes of a certificate that are read at a time
 
 
 @dataclass(frozen=True)
@@ -208,7 +208,7 @@ class Certificate:
         )
         digest = hashlib.sha256()
         with gzip.open(kept, "rb") as old, open(to, "wb") as new:
-            while data := old.read(_PIECE):
+            while data := old.read(_CHUNK_SIZE):
                 digest.update(data)
                 new.write(data)
         if verdict is None or digest.hexdigest() != verdict["certificate"]:
@@ -221,7 +221,9 @@ class Certificate:
             )
 
 
-def agree(said: Valued, held: Bools, broken: tuple[Any, Any, Any], worth: str, bound: str) -> None:
+def agree(
+    valued: Valued, held: Bools, broken: tuple[Any, Any, Any], worth: str, bound: str
+) -> None:
     """Compares what `pit` says of a set of blocks with what this package looked up and added up.
 
     Raises
@@ -230,43 +232,45 @@ def agree(said: Valued, held: Bools, broken: tuple[Any, Any, Any], worth: str, b
         Where the two contradict each other, or a closed set is worth more than the bound.
     """
     blocks, predecessors, _ = broken
-    first = tuple(zip(blocks[: len(said.needs)].tolist(), predecessors[: len(said.needs)].tolist()))
-    if said.open != len(blocks) or said.needs != first:
+    first = tuple(
+        zip(blocks[: len(valued.needs)].tolist(), predecessors[: len(valued.needs)].tolist())
+    )
+    if valued.open != len(blocks) or valued.needs != first:
         raise Disagreement(
             (
-                f"pit value says {said.said} of the design, and by the slopes that were built"
+                f"pit value says {valued.said} of the design, and by the slopes that were built"
                 f" {len(blocks):,} pairs are broken"
             ),
             try_this="tell the maintainers",
         )
-    if (said.count, said.worth, said.bound) != (
+    if (valued.count, valued.worth, valued.bound) != (
         int(np.count_nonzero(held)),
         worth,
         bound,
-    ) or Decimal(said.gap) != Decimal(bound) - Decimal(worth):
+    ) or Decimal(valued.gap) != Decimal(bound) - Decimal(worth):
         raise Disagreement(
             (
-                f"pit value says {said.count:,} blocks worth {said.worth}, {said.gap} below"
-                f" {said.bound}, and the table adds up to {np.count_nonzero(held):,} worth {worth},"
+                f"pit value says {valued.count:,} blocks worth {valued.worth}, {valued.gap} below"
+                f" {valued.bound}, and the table adds up to {np.count_nonzero(held):,} worth {worth},"
                 f" beside {bound}"
             ),
             try_this="tell the maintainers",
         )
-    if said.is_closed and Decimal(said.gap) < 0:
+    if valued.is_closed and Decimal(valued.gap) < 0:
         raise Disagreement(
             f"a closed set is worth {worth}, and pit proves that none is worth more than {bound}",
             try_this="tell the maintainers",
         )
 
 
-def _of_diggable(study: Study, held: Bools, said: Valued, factor: int) -> tuple[str, str]:
+def _of_diggable(study: Study, held: Bools, valued: Valued, factor: int) -> tuple[str, str]:
     """What a set is worth without the blocks in it that may not be dug, and how far that is below
     the bound: `pit value` counts these at the price that keeps them from every pit, so that its
     amounts say nothing of the set."""
     if not (held & study.priced.forbidden).any():
-        return said.worth, said.gap
+        return valued.worth, valued.gap
     worth = study.priced.worth_of(held & ~study.priced.forbidden, factor)
-    return worth, spelled(Decimal(said.bound) - Decimal(worth))
+    return worth, spelled(Decimal(valued.bound) - Decimal(worth))
 
 
 def _repaired(certificate: Certificate, resting: Resting, held: Bools) -> _Repair:

@@ -1,7 +1,8 @@
 """What is said of a design beside the best pit, line by line."""
 from __future__ import annotations
 
-from typing import TYPE_CHECKING
+from collections.abc import Hashable, Mapping
+from typing import TYPE_CHECKING, Any
 
 from ..base.arrays import Bools
 from ..base.units import Units
@@ -12,70 +13,82 @@ if TYPE_CHECKING:
     from .compare import Comparison
 
 
-def verdict_lines(found: Comparison, currency: str, units: Units = Units()) -> list[str]:
+def verdict_lines(comparison: Comparison, currency: str, units: Units = Units()) -> list[str]:
     """What `pit value` says of the design, whether it keeps the slopes, and how far it is from the
     bound."""
     return [
-        f"pit value says of the design: {found.said}",
+        f"pit value says of the design: {comparison.said}",
         *(
-            _closed_lines(found, currency)
-            if found.is_closed
-            else _broken_lines(found, currency, units)
+            _closed_lines(comparison, currency)
+            if comparison.is_closed
+            else _broken_lines(comparison, currency, units)
         ),
     ]
 
 
-def _closed_lines(found: Comparison, currency: str) -> list[str]:
+def _closed_lines(comparison: Comparison, currency: str) -> list[str]:
     """What is said of a design that keeps the slopes."""
-    if (found.design.held == found.optimum).all():
+    if (comparison.design.held == comparison.optimum).all():
         return ["the design is the best pit"]
-    return [f"the design keeps the slopes, and is {distance(found, str(found.gap), currency)}"]
+    return [
+        f"the design keeps the slopes, and is {distance(comparison, str(comparison.gap), currency)}"
+    ]
 
 
-def distance(found: Comparison, gap: str, currency: str) -> str:
+def distance(comparison: Comparison, gap: str, currency: str) -> str:
     """How far a worth is below the bound; above it only a set is that digs what no pit may."""
     if gap.startswith("-"):
         return (
-            f"{money(gap[1:], currency)} ({found.share(gap[1:]):.2%}) above the proved bound, which"
+            f"{money(gap[1:], currency)} ({comparison.share(gap[1:]):.2%}) above the proved bound, which"
             " holds for pits that dig none of the blocks left out"
         )
-    return f"{money(gap, currency)} ({found.share(gap):.2%}) below the proved bound"
+    return f"{money(gap, currency)} ({comparison.share(gap):.2%}) below the proved bound"
 
 
-def _broken_lines(found: Comparison, currency: str, units: Units) -> list[str]:
+def _broken_lines(comparison: Comparison, currency: str, units: Units) -> list[str]:
     """What is said of a design that breaks the slopes. How far it is from the bound is said of the
     mended design alone, since one that breaks slopes may be worth more than any pit."""
-    assert found.repair
+    assert comparison.repair
     lines = [
-        f"the design breaks the slopes at {len(found.pairs):,} pairs of a block and a predecessor"
-        f" that it leaves, on {found.pairs['bench'].nunique():,} benches"
+        f"the design breaks the slopes at {len(comparison.pairs):,} pairs of a block and a predecessor"
+        f" that it leaves, on {comparison.pairs['bench'].nunique():,} benches"
     ]
-    for wall in found.walls.head(3).to_dict("records"):
+    for wall in comparison.walls.head(3).to_dict("records"):
         way = (
             "straight above"
             if wall["bearing"] != wall["bearing"]
             else f"towards {wall['bearing']:05.1f}"
         )
-        may = "" if wall["built"] != wall["built"] else f" where {wall['built']:.1f} may stand"
         lines.append(
-            f"  wall {way}: {wall['steepest']:.1f} degrees at worst{may}, {length_text(wall['height'])}"
+            f"  wall {way}: {wall['steepest']:.1f} degrees at worst{_may_stand(wall)}, {length_text(wall['height'])}"
             f" {units.length} up over {wall['away']:,.1f} {units.length}, from"
             f" {'block ' + wall['id'] if wall['id'] else 'an added block'} at ({wall['x']:,.1f},"
             f" {wall['y']:,.1f}), bench {length_text(wall['bench'])}; {wall['pairs']:,} pairs"
         )
-    more = len(found.walls) - 3
+    more = len(comparison.walls) - 3
     lines += (
         [f"  {more} more {'bearings' if more > 1 else 'bearing'} in walls.csv of pitplan compare"]
         if more > 0
         else []
     )
-    rock = printed_scale([found.benches.design_t.sum()], units.weight)
+    rock = printed_scale([comparison.benches.design_t.sum()], units.weight)
     lines.append(
-        f"to keep them it has to dig {found.repair.blocks:,} blocks more"
-        f" ({rock.said(found.repair.tonnes)}); then it is worth"
-        f" {money(found.repair.worth, currency)}, " + distance(found, found.repair.gap, currency)
+        f"to keep them it has to dig {comparison.repair.blocks:,} blocks more"
+        f" ({rock.said(comparison.repair.tonnes)}); then it is worth"
+        f" {money(comparison.repair.worth, currency)}, "
+        + distance(comparison, comparison.repair.gap, currency)
     )
     return lines
+
+
+def _may_stand(wall: Mapping[Hashable, Any]) -> str:
+    """What may stand where a wall breaks the slopes: of a low wall it may be less than of a deep one,
+    and its angle alone doesn't say that it is too steep."""
+    steepest, built = wall["steepest"], wall["built"]
+    if built != built:
+        return ""
+    is_less = round(steepest, 1) <= round(built, 1)
+    return f" where {f'less than {steepest:.1f}' if is_less else f'{built:.1f}'} may stand"
 
 
 def forbidden_lines(study: Study, held: Bools) -> list[str]:

@@ -11,7 +11,8 @@ import numpy as np
 import pandas as pd
 
 from ..base.arrays import Bools, Ints
-from ..base.errors import PlanError, meant
+from ..base.errors import PlanError
+from ..base.near_words import meant
 from ..base.next_command import command
 from ..model.model import Model
 from ..study.study_file import read_study_file
@@ -233,13 +234,15 @@ def by_ids_of(model: Model, path: Path, encoding: str | None = None) -> Design:
             table=path,
             try_this=f"call it {own or 'id'}",
         )
+    # no header line: the first is an id too
+    is_id = column is None and as_written(names[0]) in set(_cells_of(model, "id")[0].astype(str))
+    first = pd.Series([names[0]] if is_id else [], index=[-1] if is_id else [], dtype=object)
+    if is_id and not any(line.strip() for line in head_of(path, dialect.encoding)[1:]):
+        return by_ids(model, first, path.stem, path.name)
     frame = read_frame(path, dialect, names)
     ids = frame[column or names[0]].fillna("").astype(str)
     ids = ids[ids.str.strip() != ""]
-    if column is None and as_written(names[0]) in set(_cells_of(model, "id")[0].astype(str)):
-        # no header line: the first is an id too
-        ids = pd.concat([pd.Series([names[0]], index=[-1]), ids])
-    return by_ids(model, ids, path.stem, path.name)
+    return by_ids(model, pd.concat([first, ids]), path.stem, path.name)
 
 
 def by_file(
@@ -262,8 +265,8 @@ def by_file(
 
 
 def has_points(path: Path, own: str, encoding: str | None = None) -> bool:
-    """Whether a table has points of a surface, by the names of its columns, and no ids of blocks; `own` is the model's column
-    of ids.
+    """Whether a table has points of a surface, by the names of its columns, and no ids of blocks;
+    `own` is the model's column of ids.
 
     Raises
     ------

@@ -137,7 +137,7 @@ def of_table(path: Path, model: Model | None, keys: TableKeys | None) -> Singles
         raise
 
 
-def _same_ids(found: pd.Series, model: Model, path: Path) -> None:
+def _same_ids(series: pd.Series, model: Model, path: Path) -> None:
     """Refuses realisations whose rows are of other blocks than the table's."""
     known = (
         model.blocks[model.blocks["row"] >= 0]
@@ -146,7 +146,7 @@ def _same_ids(found: pd.Series, model: Model, path: Path) -> None:
         .str.strip()
         .to_numpy()
     )
-    given = found.fillna("").astype(str).str.strip().to_numpy()
+    given = series.fillna("").astype(str).str.strip().to_numpy()
     row_block = model.row_block  # of sub-blocks the id of the first alone is kept
     there = row_block[row_block >= 0]
     given = (
@@ -161,8 +161,8 @@ def _same_ids(found: pd.Series, model: Model, path: Path) -> None:
         raise PlanError(
             f"{given[at]!r} stands where the table has {known[at]!r}",
             table=path,
-            row=int(found.index[at]),
-            column=found.name,
+            row=int(series.index[at]),
+            column=series.name,
             try_this="a row for each row of the table, in its order",
         )
 

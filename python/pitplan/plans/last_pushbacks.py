@@ -24,17 +24,17 @@ _KINDS = {
 }
 
 
-def _digest_of(found: Phases) -> str:
+def _digest_of(phases: Phases) -> str:
     """sha256 of the pushback of each block."""
-    return hashlib.sha256(found.pushback.astype("<i2").tobytes()).hexdigest()
+    return hashlib.sha256(phases.pushback.astype("<i2").tobytes()).hexdigest()
 
 
-def keep(found: Phases, folder: Path) -> None:
+def keep(phases: Phases, folder: Path) -> None:
     """Notes which pushbacks these are: their factors, and to what they were widened."""
     kept = {
-        "factors": list(found.shells.factors),
-        "widen": None if found.mines is None else found.mining_width,
-        "blocks": _digest_of(found),
+        "factors": list(phases.shells.factors),
+        "widen": None if phases.mines is None else phases.mining_width,
+        "blocks": _digest_of(phases),
     }
     write_json(folder / _NAME, kept)
 

@@ -265,9 +265,9 @@ class Mines(Shells):
 
     called = "pushback"
 
-    def __init__(self, found: Phases) -> None:
-        self.study, self.factors = found.shells.study, list(found.shells.factors)
-        self.shell, self.verdicts = found.shell, []
+    def __init__(self, phases: Phases) -> None:
+        self.study, self.factors = phases.shells.study, list(phases.shells.factors)
+        self.shell, self.verdicts = phases.shell, []
 
     @property
     def first(self) -> Array:

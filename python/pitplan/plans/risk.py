@@ -58,7 +58,7 @@ from .grade_files import (
     open_realisations,
     without_marks,
 )
-from .task_line import Task
+from .task_line import REALISATION, Task
 
 if TYPE_CHECKING:
     from ..pit.program import Files
@@ -254,7 +254,10 @@ def _refuse_fence(study: Study, economics: Economics, column: str) -> None:
     named = set().union(*(names_in(str(formula)) for formula in economics.forbid))
     if study.model.has_sub_blocks and column in named:
         raise PlanError(
-            f"[economics] forbid names {column}, and so do realisations over sub-blocks: what it keeps would change with each of them",
+            (
+                f"[economics] forbid names {column}, and so do realisations over sub-blocks:"
+                " what it keeps would change with each of them"
+            ),
             try_this="forbid by another column",
             key=("economics", "forbid"),
         )
@@ -393,7 +396,7 @@ class Realisation(Study):
         """The folder of a factor's result (in thousandths)."""
         return self.folder / "runs" / f"r{self.number:04d}" / f"f{factor:05d}"
 
-    keeps = False  # its digest is kept
+    keeps_certificates = False
 
     def room(self, work: Path) -> Path:
         """The certificate is written in this machine's scratch, and never goes over the network."""
@@ -425,8 +428,7 @@ class Realisation(Study):
         if self.made:
             yield self.files
             return
-        # pricing and writing count with the first pit: `pitplan status` reckons by what pits took
-        self.began = time.monotonic()
+        start = time.monotonic()
         sweep(Path(tempfile.gettempdir()), _SCRATCH + "*")
         with tempfile.TemporaryDirectory(
             prefix=_SCRATCH + mark(), ignore_cleanup_errors=True
@@ -437,6 +439,8 @@ class Realisation(Study):
                 write_blocks(
                     self.made, self.model, self.priced, self.base.region if several else None
                 )
+                # `pitplan status` reckons the time that is left by what pits took
+                self.preparation_seconds = time.monotonic() - start
                 yield self.files
             except OSError as error:
                 raise MachineError(
@@ -444,7 +448,7 @@ class Realisation(Study):
                     try_this=_ROOM if error.errno in FULL else None,
                 ) from error
             finally:
-                self.made = self.began = None
+                self.made, self.preparation_seconds = None, 0.0
 
 
 def realisation(base: Study, number: int) -> Realisation:
@@ -466,11 +470,11 @@ def realisation(base: Study, number: int) -> Realisation:
     return Realisation(base, setup, number)
 
 
-def tasks(study: Study) -> list[Task]:
+def risk_tasks(study: Study) -> list[Task]:
     """The tasks of the realisations that were asked for: one for each, with all of its factors."""
     setup = setup_of(study)
     return (
-        [Task("realisation", str(r), tuple(setup.factors)) for r in range(len(setup.digests))]
+        [Task(REALISATION, str(r), tuple(setup.factors)) for r in range(len(setup.digests))]
         if setup
         else []
     )

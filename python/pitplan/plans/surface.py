@@ -11,15 +11,16 @@ from typing import Any
 import numpy as np
 
 from ..base.arrays import Floats, Ints
-from ..base.errors import PlanError, meant
+from ..base.errors import PlanError
+from ..base.near_words import meant
 from ..base.within import refuse_outside
 from ..model.grid import Grid
 
 AT_ONCE = 4_000_000  # columns under triangles that are looked at in one go
 _SLACK = 1e-9
-MOST = 1_000_000  # faces and other entities that the blocks of a DXF may bring
+MOST_ENTITIES = 1_000_000  # faces and other entities that the blocks of a DXF may bring
 _DEEPEST = 32  # blocks that a block may stand in
-_OWN = re.compile(r"(SHELL|PUSHBACK|YEAR)_\d+_(TOE|CREST)")  # layers of views.export.dxf
+_OUTLINE_LAYER = re.compile(r"(SHELL|PUSHBACK|YEAR)_\d+_(TOE|CREST)")  # layers of views.export.dxf
 _FAR = 1e12  # how far from 0 a corner may be
 # what ezdxf raises of a file that breaks off or is none
 _BROKEN = (
@@ -98,7 +99,7 @@ def of_dxf(path: Path, layers: Sequence[str] = ()) -> Surface:
     for layer in layers:
         if layer not in there:
             raise PlanError(f"has no layer {layer!r}{meant(layer, sorted(there))}", table=path)
-    if not faces and there and all(map(_OWN.fullmatch, there)):
+    if not faces and there and all(map(_OUTLINE_LAYER.fullmatch, there)):
         raise PlanError(
             "has no faces: it has the outlines of pits, pushbacks or years that pitplan export"
             " wrote",
@@ -143,14 +144,14 @@ class _Entities:
     """
 
     def __init__(self, path: Path) -> None:
-        self.path, self.left = path, MOST
+        self.path, self.left = path, MOST_ENTITIES
 
     def take(self, count: int) -> None:
-        """Counts what blocks bring. Raises PlanError where it is more than `MOST`."""
+        """Counts what blocks bring. Raises PlanError where it is more than `MOST_ENTITIES`."""
         self.left -= count
         if self.left < 0:
             raise PlanError(
-                f"its blocks bring more than {MOST:,} faces and other entities",
+                f"its blocks bring more than {MOST_ENTITIES:,} faces and other entities",
                 table=self.path,
                 try_this=(
                     "explode the blocks of the design in the CAD package, and leave the others out"

@@ -5,14 +5,15 @@ import hashlib
 from collections.abc import Sequence
 from dataclasses import dataclass
 
+from ..base.amounts import THOUSAND
 from ..base.errors import PlanError
 from ..study.shells import thousandths
 
 BASE = "base"
-SCHEDULE = "schedule"
-REALISED = "realisation-schedule"
-_KINDS = ("run", "realisation", SCHEDULE, REALISED)
-NUMBERED = ("realisation", REALISED)
+RUN, REALISATION = "run", "realisation"
+SCHEDULE, REALISED = "schedule", "realisation-schedule"
+# of each kind of task whether its name is a number; what it does is in `tasks.task_kinds`
+_IS_NUMBERED = {RUN: False, REALISATION: True, SCHEDULE: False, REALISED: True}
 
 
 @dataclass(frozen=True, order=True)
@@ -22,7 +23,7 @@ class Task:
     Attributes
     ----------
     kind : str
-        One of `_KINDS`.
+        One of `_IS_NUMBERED`.
     name : str
         Of the scenario, "base" for the study itself; or the number of the realisation, from 0.
     factors : tuple of int
@@ -59,14 +60,12 @@ def task_of(words: Sequence[str]) -> Task:
     'realisation 17 800,1000'
     """
     example = "pitplan task STUDY run base 800, or pitplan task STUDY realisation 17 800,1000"
-    if len(words) != 3 or words[0] not in _KINDS:
+    if len(words) != 3 or words[0] not in _IS_NUMBERED:
         raise PlanError(f"{' '.join(words)!r} is no task", try_this=example)
-    parts = words[2].split(",")
-    if not all(part.isdigit() for part in parts) or (
-        words[0] in NUMBERED and not words[1].isdigit()
-    ):
+    is_numbered, parts = _IS_NUMBERED[words[0]], words[2].split(",")
+    if not all(part.isdigit() for part in parts) or (is_numbered and not words[1].isdigit()):
         raise PlanError(
             f"{' '.join(words)!r} is no task: factors are whole thousandths", try_this=example
         )
-    factors = tuple(sorted({thousandths(int(part) / 1000) for part in parts}))
-    return Task(words[0], str(int(words[1])) if words[0] in NUMBERED else words[1], factors)
+    factors = tuple(sorted({thousandths(int(part) / THOUSAND) for part in parts}))
+    return Task(words[0], str(int(words[1])) if is_numbered else words[1], factors)

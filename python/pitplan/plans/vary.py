@@ -18,8 +18,9 @@ import pandas as pd
 
 from ..base import kept_json
 from ..base.amounts import THOUSAND
-from ..base.errors import PlanError, meant
+from ..base.errors import PlanError
 from ..base.files import write_json
+from ..base.near_words import meant
 from ..base.next_command import command
 from ..base.units_shown import share_text
 from ..model.economics import Amount, Economics
@@ -30,7 +31,7 @@ from ..study import edges
 from ..study.pit_by_pit import Cells, Rates, by_bench, discounted
 from ..study.shells import Shells, thousandths
 from ..study.study import Study
-from .task_line import BASE, Task
+from .task_line import BASE, RUN, Task
 
 if TYPE_CHECKING:
     from matplotlib.figure import Figure
@@ -206,7 +207,7 @@ def prepare(
     study: Study,
     economics: Economics,
     slopes: Slopes,
-    changes: Sequence[Change],
+    changes: Iterable[Change],
     factor: int = THOUSAND,
     rates: Rates = Rates(),
 ) -> _Changes:
@@ -216,6 +217,8 @@ def prepare(
     ----------
     economics, slopes
         What the study was built with.
+    changes
+        Each is taken once the model of the one before is built.
     factor : int
         In thousandths.
     rates : Rates
@@ -226,8 +229,9 @@ def prepare(
     PlanError
         Where a change can't be made, as that of a metal that isn't there: it names the change.
     """
-    asked = _Changes(study.key, factor, [(c.what, c.by) for c in changes])
+    asked = _Changes(study.key, factor, [])
     for change in changes:
+        asked.changes.append((change.what, change.by))
         try:
             _make(study, economics, slopes, change, (factor, rates))
         except PlanError as error:
@@ -393,7 +397,10 @@ def price_factor(factor: int, change: Change) -> int:
         # no change is none that can be made
         near = round(exact) if round(exact) != factor else factor + (1 if change.by > 0 else -1)
         raise PlanError(
-            f"{change} of factor {share_text(factor)} is factor {exact / THOUSAND:.9g}, and factors are whole thousandths",
+            (
+                f"{change} of factor {share_text(factor)} is factor {exact / THOUSAND:.9g}, and"
+                " factors are whole thousandths"
+            ),
             try_this=f"{change.what}={100 * (near / factor - 1):+.9g}",
         )
     return thousandths(round(exact) / THOUSAND)
@@ -457,16 +464,16 @@ def scenario(base: Study, name: str) -> Study:
     return Study(place(base, name), base.given)
 
 
-def task(asked: _Changes, change: Change | None) -> Task:
+def task(changes: _Changes, change: Change | None) -> Task:
     """The task of a change; of the study itself where there is none."""
     if change is None or change.keeps_pit:
-        return Task("run", BASE, (asked.factor,))
+        return Task(RUN, BASE, (changes.factor,))
     if change.is_factor:
-        return Task("run", BASE, (price_factor(asked.factor, change),))
-    return Task("run", change.name, (asked.factor,))
+        return Task(RUN, BASE, (price_factor(changes.factor, change),))
+    return Task(RUN, change.name, (changes.factor,))
 
 
-def tasks(study: Study) -> list[Task]:
+def vary_tasks(study: Study) -> list[Task]:
     """The tasks of the what-ifs that were asked for, the study itself first."""
     asked = asked_of(study)
     each = [task(asked, change) for change in (None, *asked.each())] if asked else []
@@ -569,35 +576,35 @@ class _OnePit:
         return discounted(self.rock, self.feeds, self.worth, rates)[0]
 
 
-def tornado(found: pd.DataFrame, currency: str = "$") -> Figure:
+def tornado(table: pd.DataFrame, currency: str = "$") -> Figure:
     """The tornado charts of `table`: of the worth, and beside it of the npv. For each thing a bar
     from its lowest to its highest, the longest on top. What leaves the pit as it is, stands in that
     of the npv alone."""
     from matplotlib.figure import Figure
 
-    what = found.iloc[1:].what
+    what = table.iloc[1:].what
     moves = ~what.isin((*RATES, DISCOUNT))
     bars = what.nunique()
     figure = Figure(figsize=(14, 1.7 + 0.6 * bars), layout="constrained")
     left, right = figure.subplots(1, 2)
-    base = found.iloc[:1]
-    draw(left, pd.concat([base, found.iloc[1:][moves]]), "worth", currency)
+    base = table.iloc[:1]
+    draw(left, pd.concat([base, table.iloc[1:][moves]]), "worth", currency)
     left.set_title("What moves the worth: a proved pit at each end", fontsize=12)
-    draw(right, found, "npv", currency)
+    draw(right, table, "npv", currency)
     right.set_title("What moves the npv of that pit, bench after bench", fontsize=12)
     return figure
 
 
 def draw(
-    axes: Any, found: pd.DataFrame, column: str, currency: str, of: str = "best pit"
+    axes: Any, table: pd.DataFrame, column: str, currency: str, of: str = "best pit"
 ) -> list[str]:
     """One tornado chart, of a column of `table`; gives what its bars are of, from the lowest up."""
     from ..base.units_shown import scale_of
 
-    base = float(found[column].iloc[0])
-    money = scale_of(found[column], currency)
+    base = float(table[column].iloc[0])
+    money = scale_of(table[column], currency)
     groups = sorted(
-        found.iloc[1:].groupby("what"),
+        table.iloc[1:].groupby("what"),
         key=lambda group: float(
             max(group[1][column].max(), base) - min(group[1][column].min(), base)
         ),

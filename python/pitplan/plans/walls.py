@@ -13,7 +13,7 @@ from ..slopes.offsets import Outline, wall
 
 if TYPE_CHECKING:
     from ..model.model import Model
-    from ..study.resting import Resting
+    from ..study.predecessors import Resting
 
 _SECTORS = 16  # of bearings: each 22.5 degrees wide, the first around north
 _LEVELS = 6  # over which a wall is measured, where the slopes look at fewer

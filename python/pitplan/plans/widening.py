@@ -8,21 +8,20 @@ from __future__ import annotations
 
 from collections.abc import Iterator, Sequence
 from dataclasses import dataclass
-from typing import TYPE_CHECKING, Any
+from typing import TYPE_CHECKING
 
 import numpy as np
-from numpy.typing import NDArray
 from scipy import ndimage
 
-from ..base.arrays import Bools, Ints
+from ..base.arrays import Bools, Ints, Wholes
 from ..base.errors import Disagreement, PlanError
 from ..base.units_shown import share_text
-from ..study.resting import Resting
+from ..study.predecessors import Resting
 from . import widths
 from .compare import Certificate, agree
 
 if TYPE_CHECKING:
-    from ..pit.valued import Valued
+    from ..pit.value_answer import Valued
     from ..study.shells import Shells
     from ..study.study import Study
 
@@ -91,7 +90,11 @@ class Widening:
             before = pit if last else self.widen(part)
             if not (before & ~part.before & self.rock).any():
                 raise PlanError(
-                    f"pushback {i + 1} (factor {share_text(shells.factors[i])}) has nothing left: to be {width:g} {model.units.length} wide those before it dig all of it",
+                    (
+                        f"pushback {i + 1} (factor {share_text(shells.factors[i])}) has nothing"
+                        f" left: to be {width:g} {model.units.length} wide those before it dig"
+                        " all of it"
+                    ),
                     try_this="leave that factor out, or take factors that lie further apart",
                 )
             self.mines.append(before)
@@ -171,9 +174,7 @@ class Widening:
         is_all = not (part.held & ~found & ~part.before & self.rock).any()
         return found, 0 if is_all else int(now.sum())
 
-    def closure(
-        self, blocks: NDArray[np.integer[Any]], there: Bools, is_down: bool = False
-    ) -> Bools:
+    def closure(self, blocks: Wholes, there: Bools, is_down: bool = False) -> Bools:
         """Some blocks with all that they rest on, or with all that rests on them, without what is
         there already."""
         found = np.zeros(len(there), bool)

@@ -12,7 +12,7 @@ from ..base.arrays import Bools, Floats
 STEPS = 4  # radii that are tried, in the shorter side of a block: widths are told to half a block
 _FINE = 32  # steps up to which each is tried
 _SLACK = 1e-9
-_NEAR = 1e-3  # of a cell's side: a width that is wanted and is more by less than that is as good as there
+_WIDTH_TOLERANCE = 1e-3  # of a cell's side: a width that is wanted and is more by less than that is as good as there
 
 
 def widths(plane: Bools, size: tuple[float, float], wanted: float = 0.0) -> Floats:
@@ -107,7 +107,7 @@ def cells_across(width: float, size: tuple[float, float]) -> list[int]:
     >>> cells_across(40.0001, (20, 20)), cells_across(40.1, (20, 10))
     ([2, 2], [3, 5])
     """
-    return [math.ceil(width / side - _NEAR) for side in size]
+    return [math.ceil(width / side - _WIDTH_TOLERANCE) for side in size]
 
 
 def lattice(plane: Bools) -> Bools:
@@ -125,7 +125,7 @@ def lattice(plane: Bools) -> Bools:
 def by_circles(room: Floats, radius: float, half: tuple[float, float]) -> Bools:
     """The cells that circles of a radius cover, where they lie within the set; `room` is the
     distance to its border on `lattice`."""
-    fits = room >= radius - _NEAR * min(half)
+    fits = room >= radius - _WIDTH_TOLERANCE * min(half)
     if not fits.any():
         return np.zeros((room.shape[0] // 2, room.shape[1] // 2), bool)
     away = ndimage.distance_transform_edt(~fits, sampling=half)[1::2, 1::2]

@@ -1,9 +1,10 @@
-"""A plan by years of the best pit's blocks, and a bound of what any such plan is worth."""
+"""A plan by years of the best pit's blocks, and a bound of what any such plan is worth: the mine in
+whole numbers, its relaxation, the search, `pit`'s judgement, tables."""
 from __future__ import annotations
 
 from typing import TYPE_CHECKING
 
-from ..base.door import door
+from ..base.public_names import door
 
 if TYPE_CHECKING:
     from .plan import Schedule as Schedule

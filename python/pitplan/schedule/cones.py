@@ -1,16 +1,17 @@
 """The first period in which each unit may be dug by its cone: itself and all that it rests on, directly
 or not.
 
-Whoever digs a unit by the end of a period has dug its whole cone by then. So where the cone uses more of
-a resource than all periods up to that one have together, no schedule digs the unit so early. This
-holds for units that are dug whole: a bound by it says nothing of a schedule that digs them in parts.
+Whoever digs a unit by the end of a period has dug its whole cone by then. So where the cone uses
+more of a resource than all periods up to that one have together, no schedule digs the unit so
+early. This holds for units that are dug whole: a bound by it says nothing of a schedule that digs
+them in parts.
 """
 from __future__ import annotations
 
 import numpy as np
 
 from ..base.arrays import Ints
-from .loops import compiled
+from .compiling import compiled
 from .pairs import Pairs
 
 _BITS = 64  # units whose cones are added up in one pass

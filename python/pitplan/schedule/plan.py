@@ -5,36 +5,43 @@ from __future__ import annotations
 import hashlib
 import math
 from collections.abc import Mapping
-from dataclasses import dataclass
+from dataclasses import dataclass, replace
 from decimal import Decimal
 from pathlib import Path
-from typing import TYPE_CHECKING, Any
+from typing import TYPE_CHECKING, Any, NamedTuple
 
 import numpy as np
 
 from ..base.amounts import THOUSAND
-from ..base.arrays import Array, Bools, Indices
+from ..base.arrays import Array, Bools, Indices, Ints
 from ..base.errors import NotAccepted, PlanError
 from ..base.next_command import command
-from ..pit.scheduled import Scheduled
+from ..pit.schedule_answer import Scheduled
 from ..study.pit_by_pit import Rates
-from .ends import End
-from .judged import judged
+from .search_ends import End, Limits, SearchStopped
+from .pit_schedule import judged
+from .destinations import Timetable
 from .production import Production, feeds_of, production_of
-from .search import Search, Told
-from .sending import Timetable
-from .terms import MILLION, terms_of
+from .search import Listener, Search
+from .terms import MILLION, refuse_no_full_price, terms_of
 
 if TYPE_CHECKING:
     from ..study.shells import Shells
-    from ..study.study import Study
 
 _WHOLE = Decimal(100)
 
 
+class _Left(NamedTuple):
+    """What of a pit stays in the ground: blocks of rock, tonnes, and what they are worth."""
+
+    blocks: int
+    tonnes: float
+    worth: float
+
+
 @dataclass(frozen=True)
 class Schedule:
-    """A schedule that `pit schedule` calls feasible, beside a bound that `pit` accepted.
+    """A schedule that `pit schedule` calls feasible, beside a bound that it says.
 
     Attributes
     ----------
@@ -42,8 +49,9 @@ class Schedule:
     production : Production
     period : int array of shape (blocks of the model,)
         When each block is dug, from 0; -1 where it isn't.
-    sent : bool array of that shape
-        Whether it goes to the mill where it is dug.
+    goes : int array of that shape
+        Which way it goes where it is dug: the number of the mill or the process, from 1, and 0 to
+        waste.
     said : Scheduled
         What `pit schedule` says of it.
     fixed : Decimal
@@ -59,12 +67,17 @@ class Schedule:
     shells: Shells
     production: Production
     period: Indices
-    sent: Bools
+    goes: Ints
     said: Scheduled
     fixed: Decimal
     bound: Decimal
     closures: int
     end: End | None = None
+
+    @property
+    def sent(self) -> Bools:
+        """Whether each block of the model goes to the mill, or to a process, where it is dug."""
+        return self.goes > 0
 
     @property
     def npv(self) -> Decimal:
@@ -103,8 +116,8 @@ class Schedule:
         shells: Shells,
         values: Mapping[str, Any],
         rates: Mapping[str, Any],
-        limits: tuple[float, float],
-        listener: Told | None = None,
+        limits: Limits,
+        listener: Listener | None = None,
         folder: Path | None = None,
     ) -> Schedule:
         """Searches, from where an earlier search ended.
@@ -117,10 +130,9 @@ class Schedule:
             The values of [schedule].
         rates : mapping
             Those that [shells] gives.
-        limits : two floats
-            The gap at which it ends, as a share, and the seconds that it may take.
+        limits : Limits
         listener : function, optional
-            Is told how far it is.
+            Called with how far it is.
         folder : Path, optional
             In which it is kept. Default: that of the study.
 
@@ -128,14 +140,17 @@ class Schedule:
         ------
         PlanError
             Where the terms are wrong, or no pit at the full price was found.
-        KeyboardInterrupt
+        SearchStopped
             After ctrl-C, with what was found kept.
         """
         made = production_for(shells, values, rates)
         place = folder or shells.study.folder
-        search = Search(place, made, shells.study.program, listener)
-        search.run(*limits)
-        found = cls.found_by(search, shells)
+        search = Search(place, made, shells.study.program, listener, shells.study.files)
+        try:
+            search.run(*limits)
+            found = cls.found_by(search, shells)
+        except KeyboardInterrupt:
+            raise _stopped(search, shells) from None
         if found is None:
             raise NotAccepted("no bound was found in this time", try_this="--minutes 30")
         return found
@@ -168,14 +183,15 @@ class Schedule:
             made = production_for(shells, values, rates)
         except PlanError:  # of other terms than those that a schedule was found by
             return None
-        return cls.found_by(Search(place, made, shells.study.program), shells)
+        files = shells.study.files
+        return cls.found_by(Search(place, made, shells.study.program, None, files), shells)
 
     @classmethod
     def found_by(cls, search: Search, shells: Shells) -> Schedule | None:
         """The best of what a search has, as `pit` judges it; None where it has no schedule or no
-        bound."""
+        bound. Raises PlanError where nothing is dug that pays."""
         made, plan = search.production, search.plan
-        if search.found.bound is None or plan is None:
+        if search.bound is None or search.found.bound is None or plan is None:
             return None
         if not (plan.period < made.periods).any():
             raise PlanError(
@@ -185,12 +201,13 @@ class Schedule:
                 key=("schedule",),
             )
         search.tell("pit judges the schedule")
-        said = judged(shells.study, made, plan, search.kept.folder)
+        bound = search.bound, search.kept.certificate
+        said = judged(shells.study, made, plan, search.kept.folder, bound)
         return cls(
             shells,
             made,
             made.of_blocks(plan),
-            _sent_of(shells.study, made, plan),
+            _goes_of(made, plan, shells),
             said,
             Decimal(made.fixed(plan)) / MILLION,
             Decimal(search.found.bound) / MILLION,
@@ -217,10 +234,7 @@ class Schedule:
     @property
     def digest(self) -> str:
         """Of when each block is dug and where it goes, and of all that the bound rests on."""
-        found = hashlib.sha256(self.production.key.encode())
-        for each in (self.period, self.sent):
-            found.update(np.ascontiguousarray(each).tobytes())
-        return found.hexdigest()
+        return _digest(self.production, self.period, self.goes)
 
     @property
     def periods(self) -> Indices:
@@ -245,31 +259,47 @@ class Schedule:
     def ways(self) -> Array:
         """Where each block of the model goes: "mill", or the name of a process, or "waste"; ""
         where it isn't dug, and of air."""
-        there = self.shells.study.priced.destinations(THOUSAND).astype(str)
-        return np.where(self.periods > 0, np.where(self.sent, there, "waste"), "")
+        names = np.array(["waste", *(way.name for way in self.shells.study.priced.ways)])
+        return np.where(self.periods > 0, names[self.goes], "")
 
-    def left(self) -> tuple[int, float, float]:
-        """What of the pit stays in the ground: blocks of rock, tonnes, and what they are worth."""
+    def left(self) -> _Left:
+        """What of the pit stays in the ground."""
         study, pit = self.shells.study, self.production.blocks
         stays = np.zeros(len(self.period), bool)
         stays[pit] = self.period[pit] < 0
         stays &= study.model.is_rock
         tonnes = study.model.blocks.tonnes.to_numpy(float)
-        return (
+        return _Left(
             int(stays.sum()),
             float(tonnes[stays].sum()),
             float(study.priced.worth(THOUSAND)[stays].sum()),
         )
 
 
-def _sent_of(study: Study, production: Production, plan: Timetable) -> Bools:
-    """Whether each block of the model goes to the mill where it is dug, of shape
-    (blocks of the model,)."""
-    if not production.terms.is_by_year:
-        return study.priced.treated(THOUSAND)
-    found = np.zeros(production.size, bool)
-    found[production.blocks_sent(plan)] = True
-    return found
+def _goes_of(production: Production, plan: Timetable, shells: Shells) -> Ints:
+    """Which way each block goes where it is dug, as `Schedule.goes` has it."""
+    if production.terms.is_by_year:
+        return production.ways_chosen(plan)
+    return shells.study.priced.way_of(THOUSAND)
+
+
+def _digest(production: Production, period: Indices, goes: Ints) -> str:
+    """The digest of a schedule, as `Schedule.digest` says."""
+    found = hashlib.sha256(production.key.encode())
+    for each in (period, goes):
+        found.update(np.ascontiguousarray(each).tobytes())
+    return found.hexdigest()
+
+
+def _stopped(search: Search, shells: Shells) -> SearchStopped:
+    """What a search has once it was stopped, its schedule kept: it may have been stopped before it
+    kept that itself."""
+    made, plan = search.production, search.plan
+    if plan is None:
+        return SearchStopped(search.found, "")
+    search.kept.keep_schedule(plan)
+    found = replace(search.found, npv=made.npv(plan))
+    return SearchStopped(found, _digest(made, made.of_blocks(plan), _goes_of(made, plan, shells)))
 
 
 def production_for(
@@ -283,19 +313,13 @@ def production_for(
         As `terms_of` and `production_of`, and where the series has no pit at the full price.
     """
     study = shells.study
-    if THOUSAND not in shells.factors:
-        raise PlanError(
-            "a schedule digs the best pit at the full price, and [shells] factors has no 1.0",
-            try_this=f"1.0 among the factors, and {command('shells', study.named)}",
-            key=("shells", "factors"),
-        )
+    refuse_no_full_price(shells.factors, command("shells", study.named))
     at = shells.factors.index(THOUSAND)
     held = shells.holds(at)
     tonnes = study.model.blocks.tonnes.to_numpy(float)
     if names := study.priced.process_names:
-        told = values.get("process_rates") or rates.get("process_rates") or {}
-        of = Rates(processes=dict(told)).of(names)  # by name, in the order of the processes
-        values = {**values, "process_rates": dict(of.processes)}
+        of = Rates(processes=rates.get("process_rates") or {}).of(names)  # in their own order
+        rates = {**rates, "process_rates": of.processes}
     feeds = [float(each[held].sum()) for each in feeds_of(study)]
     terms = terms_of(values, rates, float(tonnes[held].sum()), feeds)
     return production_of(shells, terms, at)

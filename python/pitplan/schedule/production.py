@@ -1,9 +1,9 @@
 """The mine of a schedule in whole numbers: what each unit is worth and uses, what each period
 weighs and has, and which unit rests on which.
 
-A unit is a block of the best pit at the full price, a panel of them, or a gate. Only that pit's blocks are
-scheduled: since weights fall, uses aren't negative, and what the sink rate asks for lies within the
-slopes, no schedule gains by a block outside it.
+A unit is a block of the best pit at the full price, a panel of them, or a gate. Only that pit's
+blocks are scheduled: since weights fall, uses aren't negative, and what the sink rate asks for lies
+within the slopes, no schedule gains by a block outside it.
 """
 from __future__ import annotations
 
@@ -21,17 +21,16 @@ from ..base.next_command import command
 from ..base.units_shown import counted
 from .cones import first_by_cones
 from .pairs import Pairs
-from .sending import Millable, Timetable
-from .terms import GRAIN, Terms, refuse_missing
+from .destinations import Millable, Timetable
+from .terms import GRAIN, Terms, refuse_missing, refuse_parts
 from .units import Units, gated, of_units, pairs_of, rows_of, units_of
 
 if TYPE_CHECKING:
     from ..study.shells import Shells
     from ..study.study import Study
 
-_FORM = 5  # of what is kept: another one is found anew
+_FORM = 7  # of what is kept: another one is found anew
 _MOST_NODES = 1 << 24  # units by periods that `pit` reads
-_MOST_WAITS = 8  # columns in which `pit` reads what a unit waits for
 
 
 @dataclass(frozen=True)
@@ -60,7 +59,7 @@ class Production:
     sinking : Pairs
         What has to be dug a year before it, by the sink rate.
     millable : Millable
-        The blocks that may go to the mill or to waste. What they gain by the mill isn't in
+        The ways that blocks may be sent, to the mill or to a process. What they gain there isn't in
         `values`, nor their feed in `uses`. Default: none.
     pushback : int array of shape (units,)
         That of each unit, from 0. Default: all are of one.
@@ -83,17 +82,15 @@ class Production:
     gates: int = 0
 
     @property
-    def is_plain(self) -> bool:
-        """Whether `pit bound` can bound it: no block may go one of two ways, no unit waits for more
-        others than `pit` reads, and none comes later by its cone."""
-        is_read = not len(self.millable.block) and self.sinking.most <= _MOST_WAITS
-        return is_read and not self.first_by_room.any()
+    def is_of_blocks(self) -> bool:
+        """Whether units are the blocks of the pit, in their order, and nothing else."""
+        return not self.gates and self.units == len(self.blocks)
 
     @property
     def counts_cones(self) -> bool:
         """Whether cones say from when on a unit may be dug: where units are panels or have an order of
         pushbacks. Of single blocks that takes next to nothing off a bound."""
-        return bool(self.gates) or self.units < len(self.blocks)
+        return not self.is_of_blocks
 
     @property
     def units(self) -> int:
@@ -112,15 +109,15 @@ class Production:
 
     @cached_property
     def capacities(self) -> Ints:
-        """Of shape (resources, periods); what nothing limits has room for all. Units are dug whole, so of each
-        capacity counts what they may fill: a multiple of the greatest amount of which all that they use is one.
+        """Of shape (resources, periods); what nothing limits has room for all. Units are dug whole,
+        so of each capacity counts what they may fill: a multiple of the greatest amount of which
+        all that they use is one.
         """
         found = np.zeros((len(self.uses), self.periods), np.int64)
-        for row, told in enumerate(self.terms.capacities):
-            feeds = self.millable.feeds if row == 1 else self.millable.feeds[:0]
-            used = np.append(self.uses[row], feeds)  # those that may be sent take feed of the mill
+        for row, limits in enumerate(self.terms.capacities):
+            used = np.append(self.uses[row], self.millable.feeds_of(row))
             part = max(int(np.gcd.reduce(used)), 1)
-            found[row] = np.array(told) // part * part if told else int(used.sum())
+            found[row] = np.array(limits) // part * part if limits else int(used.sum())
         return found
 
     @cached_property
@@ -157,7 +154,7 @@ class Production:
     @cached_property
     def rank(self) -> Ints:
         """A number for each unit that is lower for all that it rests on: pushback by pushback, the
-        gates of one behind it, and from the top bench down."""
+        gates of one after it, and from the top bench down."""
         is_gate = np.arange(self.units) >= self.units - self.gates
         found: Ints = (self.pushback * 2 + is_gate) * (self.level.max() + 1) - self.level
         return found
@@ -191,7 +188,7 @@ class Production:
         return found
 
     def period_sent(self, plan: Timetable) -> Ints:
-        """The period in which each block that may be sent is; the number of periods where it
+        """The period in which each row of `millable` is sent; the number of periods where it
         isn't."""
         found: Ints = np.where(plan.sent, plan.period[self.millable.unit], self.periods)
         return found
@@ -203,7 +200,9 @@ class Production:
         for row in range(len(self.uses)):
             np.add.at(found[row], plan.period[dug], self.uses[row][dug])
         sent = self.period_sent(plan)
-        np.add.at(found[1], sent[sent < self.periods], self.millable.feeds[sent < self.periods])
+        there = sent < self.periods
+        of = self.millable.resource[there], sent[there]
+        np.add.at(found, of, self.millable.feeds[there])
         return found
 
     def kept_by_sink(self, period: Ints) -> Ints:
@@ -231,6 +230,8 @@ class Production:
             count = int(pairs.broken(plan.period, lag, never).sum())
             if count:
                 found.append(f"{counted(count, 'pair')} break{'s' * (count == 1)} the {what}")
+        twice = int((self.millable.so_far(plan.sent) > 1).sum())
+        found += [f"{counted(twice, 'block')} more than one way"] if twice else []
         over = self.used(plan) > self.capacities
         names = self.terms.resources
         found += [f"{names[r]} in period {t + 1} is exceeded" for r, t in np.argwhere(over)]
@@ -243,9 +244,12 @@ class Production:
         found[self.blocks] = np.where(of_pit < self.periods, of_pit, -1)
         return found
 
-    def blocks_sent(self, plan: Timetable) -> Ints:
-        """The numbers of the blocks that are dug and sent by choice, ascending."""
-        found: Ints = self.millable.block[self.period_sent(plan) < self.periods]
+    def ways_chosen(self, plan: Timetable) -> Ints:
+        """Which way each block of the model is sent by choice, of shape (blocks of the model,): the
+        number from 1, and 0 where it isn't dug or isn't sent."""
+        found = np.zeros(self.size, np.int64)
+        here = self.period_sent(plan) < self.periods
+        found[self.millable.block[here]] = self.millable.resource[here]
         return found
 
 
@@ -260,18 +264,17 @@ def production_of(shells: Shells, terms: Terms, at: int) -> Production:
     """
     study = shells.study
     priced, model = study.priced, study.model
-    if priced.rounding != int(priced.rounding):
-        raise PlanError(
-            f"[economics] rounding = {priced.rounding:f}, and a schedule counts in whole units of"
-            " currency",
-            try_this="rounding = 1",
-            key=("economics", "rounding"),
-        )
+    refuse_parts(priced.rounding)
     blocks = np.flatnonzero(shells.holds(at)).astype(np.int64)
     if not len(blocks):
-        raise PlanError("the best pit at the full price is empty: there is nothing to schedule")
+        raise PlanError(
+            "the best pit at the full price is empty: there is nothing to schedule",
+            try_this="a price at which a pit pays: pit_by_pit.csv has the pits of each factor",
+            key=("schedule",),
+        )
     parted = units_of(study, blocks, _pushback_of(shells, terms, blocks), terms.panel)
-    units, *gate_pairs = gated(parted, terms.lead)
+    gates = gated(parted, terms.lead)
+    units = gates.units
     if units.size * terms.periods > _MOST_NODES:
         raise PlanError(
             f"[schedule] {counted(units.size, 'block')} and {counted(terms.periods, 'period')} are more than"
@@ -279,14 +282,13 @@ def production_of(shells: Shells, terms: Terms, at: int) -> Production:
             try_this="panel = 2 in [schedule], or fewer years",
             key=("schedule",),
         )
-    uses = [
-        np.rint(each * GRAIN).astype(np.int64) for each in (_model_tonnes(study), *feeds_of(study))
-    ]
+    uses = list(model_uses(study, terms.is_by_year))
     worth = priced.thousandths(THOUSAND) // THOUSAND * int(priced.rounding)
     millable = Millable.none()
     if terms.is_by_year:
-        millable = _millable_of(study, blocks, units.of_blocks, uses[1])
-        worth, uses[1] = -priced.mining * int(priced.rounding), np.zeros(len(model), np.int64)
+        millable = _millable_of(study, blocks, units.of_blocks, np.stack(uses[1:]))
+        worth = -priced.mining * int(priced.rounding)
+        uses[1:] = [np.zeros(len(model), np.int64) for _ in uses[1:]]
     above, sinking = pairs_of(study, terms.sink, blocks)
     return Production(
         terms,
@@ -297,7 +299,7 @@ def production_of(shells: Shells, terms: Terms, at: int) -> Production:
         np.stack([units.summed(each[blocks]) for each in uses]),
         units.level,
         _shells_of_units(shells, terms, blocks, units),
-        of_units(above, units, True, gate_pairs),
+        of_units(above, units, True, gates),
         of_units(sinking, units, False),
         millable,
         units.pushback,
@@ -306,7 +308,7 @@ def production_of(shells: Shells, terms: Terms, at: int) -> Production:
 
 
 def _pushback_of(shells: Shells, terms: Terms, blocks: Ints) -> Ints:
-    """The pushback of each block of a pit, from 0: those of `terms`, and behind them the rest.
+    """The pushback of each block of a pit, from 0: those of `terms`, and after them the rest.
 
     Raises
     ------
@@ -341,11 +343,24 @@ def feeds_of(study: Study) -> list[Floats]:
     return study.priced.feeds_of(_model_tonnes(study), THOUSAND)
 
 
+def model_uses(study: Study, is_by_year: bool) -> Ints:
+    """Rock of each block of the model, and the feed of the mill or of each process, in thousandths of
+    a tonne, of shape (resources, blocks): of the way by which a block is worth most at the full price,
+    or of each by which it gains, where a schedule chooses."""
+    tonnes = _model_tonnes(study)
+    feeds = study.priced.feeds_gained(tonnes, THOUSAND) if is_by_year else feeds_of(study)
+    return np.stack([np.rint(each * GRAIN).astype(np.int64) for each in (tonnes, *feeds)])
+
+
 def _millable_of(study: Study, blocks: Ints, unit: Ints, feeds: Ints) -> Millable:
-    """The blocks of a pit that may go to the mill or to waste; `unit` is that of each of `blocks`,
-    and `feeds` has the feed of each block of the model, in thousandths of a tonne."""
-    priced = study.priced
-    is_so = priced.treated(THOUSAND)[blocks]
-    found = blocks[is_so]
-    gains = (priced.gains(THOUSAND) // THOUSAND)[found] * int(priced.rounding)
-    return Millable(found, unit[is_so], gains, feeds[found])
+    """The ways that the blocks of a pit may be sent; `unit` is that of each of `blocks`, and `feeds` has
+    the feed of each process and block of the model, in thousandths of a tonne."""
+    gains = np.stack([way.gain(blocks, THOUSAND) // THOUSAND for way in study.priced.ways])
+    place, way = np.nonzero(gains.T > 0)
+    return Millable(
+        blocks[place],
+        unit[place],
+        gains[way, place] * int(study.priced.rounding),
+        feeds[way, blocks[place]],
+        way + 1,
+    )

@@ -9,20 +9,22 @@ from collections.abc import Callable, Iterator
 from dataclasses import dataclass, replace
 from decimal import Decimal
 from pathlib import Path
-from typing import Any
+from typing import Any, NamedTuple
 
 import numpy as np
 
 from ..base.arrays import Floats, Ints
 from ..base.files import mark
-from ..pit.program import Pit
+from ..pit.program import Files, Pit
+from . import highs
 from .annealing import Annealing
-from .ends import ALL, GAP, KILLED, MINUTES, ROUNDS, STOPPED, End
-from .expanded import CERTIFICATE, Closed, Expanded
-from .kept import Bound, Kept
-from .partition import MOST, Clusters, Relaxed, begun, merged, relax, shares_of, split
+from .search_ends import ALL, GAP, KILLED, MINUTES, ROUNDS, STOPPED, End
+from .block_texts import BlockTexts, is_by_blocks
+from .bounds import CERTIFICATE, Bounds, Closed
+from .kept_search import Bound, Kept
+from .partition import MANY_CLUSTERS, Clusters, Relaxed, begun, merged, relax, shares_of, split
 from .production import Production
-from .sending import Timetable
+from .destinations import Timetable
 from .sorting import Sorting
 from .terms import MILLION
 from .unit_texts import UnitTexts
@@ -30,8 +32,8 @@ from .whole_units import by_whole_units, is_small
 from .windows import Windows
 
 _BOUND_PART = 0.6  # of the time, that the bound may take
-_NEAR = 0.01  # of the gap asked for, to which the bound comes to the relaxation
-_NEAREST = 1e-5
+_BOUND_TOLERANCE = 0.01  # of the gap asked for, to which the bound comes to the relaxation
+_LEAST_TOLERANCE = 1e-5  # of its worth, closer than which the bound needn't come
 _TRIES = 2000  # swaps between each two periods in a round
 _REBUILDS = 100  # tries of a round to dig other units, at most
 _REBUILT = 10_000  # units that they go over together
@@ -39,7 +41,10 @@ _SWAPS = 3  # rounds of swaps, after which come windows
 _WIDTHS = (2, 3, 2)  # periods of the windows of each pass of a round
 _IDLE = 2  # rounds of windows that gain nothing, after which these wait until something else does
 _DEARER = 3  # times what a round of windows takes, that annealing does, about
-_LEAST, _MOST = 150, 4000  # swaps between each two periods at each temperature of the first one
+_LEAST_SWAPS, _MOST_SWAPS = (
+    150,
+    4000,
+)  # swaps between each two periods at each temperature of the first one
 _LONGER = 1.5  # times that each annealing is longer than the one before
 _OFTEN = 4  # how often it gets longer
 _OF_LEFT = 0.9  # of the time that is left, which annealing may take
@@ -57,7 +62,7 @@ class Found:
     bound, npv : int or None
         In millionths of a unit of currency.
     closures : int
-        Pits of the expanded mine that were found.
+        Pits of blocks and periods that were found.
     filled : int
         Periods in which something is dug.
     """
@@ -89,8 +94,14 @@ class Found:
         }
 
 
-Told = Callable[[Found, str], None]  # how far it is, and what is done next
-_Shared = tuple[Floats, Ints]  # of the relaxation: its shares of units and periods, its multipliers
+Listener = Callable[[Found, str], None]  # how far it is, and what is done next
+
+
+class _Shared(NamedTuple):
+    """Of the relaxation: its shares of units and periods, and its multipliers."""
+
+    shares: Floats
+    multipliers: Ints
 
 
 class Search:
@@ -102,8 +113,10 @@ class Search:
         Of the study.
     production : Production
     program : Pit
-    told : function, optional
-        Is told how far it is.
+    listener : function, optional
+        Called with how far it is, and what is done next.
+    files : Files, optional
+        Of the model, by which `pit` bounds schedules of single blocks. Default: by their units.
 
     Attributes
     ----------
@@ -116,16 +129,18 @@ class Search:
         folder: Path,
         production: Production,
         program: Pit,
-        told: Told | None = None,
+        listener: Listener | None = None,
+        files: Files | None = None,
     ) -> None:
         self.production, self.program = production, program
         self.kept = Kept(folder, production)
-        self.nodes: Expanded | UnitTexts = (
-            UnitTexts(production) if production.is_plain else Expanded(production)
+        is_of_model = files is not None and is_by_blocks(production)
+        self.nodes: Bounds = (
+            BlockTexts(production, files) if files and is_of_model else UnitTexts(production)
         )
         self.sorting = Sorting(production)
         self.windows = Windows(self.sorting)
-        self.told, self.found = told, Found()
+        self.listener, self.found = listener, Found()
         self.rebuilds = min(_REBUILDS, _REBUILT // production.units)
         self.plan: Timetable | None = None
         self.rounds = self.anneals = 0  # of all kinds, and of annealing
@@ -170,6 +185,7 @@ class Search:
         """Searches, and gives why it ended."""
         ends = time.monotonic() + seconds
         self.sorting.ends = ends
+        highs.begin(1)  # which takes a while, before it is needed
         if self.plan is None:
             self.tell("a first schedule, shell by shell")
             self.take(self.sorting.by_shells())
@@ -187,8 +203,8 @@ class Search:
 
     def tell(self, what: str) -> None:
         """Says how far it is."""
-        if self.told:
-            self.told(self.found, what)
+        if self.listener:
+            self.listener(self.found, what)
 
     def bounded(self, bound: Bound) -> int:
         """What no schedule is worth more than, in millionths, by what `pit` says at some
@@ -236,19 +252,19 @@ class Search:
                 relaxed = relax(made, cluster, self.left_until(ends))
                 if relaxed is None:
                     return answer
-                answer = shares_of(cluster, relaxed), relaxed.multipliers
+                answer = _Shared(shares_of(cluster, relaxed), relaxed.multipliers)
                 self.tell("a pit of the mine of blocks and periods")
                 pit = self.closed(Path(work), relaxed, self.left_until(ends))
                 if pit is None:
                     return answer
                 best = self.found.bound
                 assert best is not None
-                is_near = best / MILLION - relaxed.worth <= max(_NEAR * gap, _NEAREST) * abs(
-                    relaxed.worth
-                )
+                is_near = best / MILLION - relaxed.worth <= max(
+                    _BOUND_TOLERANCE * gap, _LEAST_TOLERANCE
+                ) * abs(relaxed.worth)
                 if is_near or time.monotonic() > ends:
                     return answer
-                if cluster.size > MOST and relaxed.worth > last * (1 + 1e-9):
+                if cluster.size > MANY_CLUSTERS and relaxed.worth > last * (1 + 1e-9):
                     cluster = merged(cluster, relaxed)
                 last = max(last, relaxed.worth)
                 parted = split(cluster, made, pit.dug, relaxed.multipliers)
@@ -284,10 +300,10 @@ class Search:
             self.kept.keep_bound(bound, work / f"{CERTIFICATE}.gz")
         return pit
 
-    def sort(self, found: _Shared, gap: float, ends: float) -> None:
+    def sort(self, shared: _Shared, gap: float, ends: float) -> None:
         """Schedules by the shares of the relaxation, and where periods have a fixed cost by those of
         the one without it too."""
-        for shares, multipliers in (found, *self.shared_without_cost(ends)):
+        for shares, multipliers in (shared, *self.shared_without_cost(ends)):
             for plan in self.sorting.by_shares(shares, multipliers):
                 self.tell("schedules by the relaxation")
                 self.take(plan)
@@ -304,11 +320,11 @@ class Search:
         free = replace(self.production, terms=replace(terms, fixed_cost=0))
         relaxed = relax(free, cluster, ends - time.monotonic())
         if relaxed is not None:
-            yield shares_of(cluster, relaxed), relaxed.multipliers
+            yield _Shared(shares_of(cluster, relaxed), relaxed.multipliers)
 
     def swap(self, gap: float, ends: float) -> str:
-        """Swaps between neighbouring periods in rounds, then windows of these in turns with annealing, longer
-        each time, until all bring next to nothing. Gives why it ended."""
+        """Swaps between neighbouring periods in rounds, then windows of these in turns with
+        annealing, longer each time, until all bring next to nothing. Gives why it ended."""
         stale, seed = 0, int(self.kept.arrays("swaps").get("seed", np.array(0)))
         while True:
             if self.found.gap <= gap:
@@ -326,8 +342,8 @@ class Search:
             stale = stale + 1 if self.found.npv - before <= _NOTHING * abs(before) else 0
 
     def one_round(self, seed: int) -> None:
-        """One round: of swaps, and after some of these of windows or of annealing, whichever gained more the last
-        time; and of rebuilding."""
+        """One round: of swaps, and after some of these of windows or of annealing, whichever gained
+        more the last time; and of rebuilding."""
         assert self.plan is not None and self.found.npv is not None and self.end is not None
         self.rounds, before = self.rounds + 1, self.found.npv
         is_for_windows = self.rounds > _SWAPS and self.is_for_windows
@@ -356,10 +372,10 @@ class Search:
         return self.by_windows > self.by_annealing
 
     def anneal(self, times: int, seed: int) -> None:
-        """Annealing, each half as long again as the one before up to a limit, and no longer than the time
-        that is left: what is cut off while it is hot brings nothing."""
+        """Annealing, each half as long again as the one before up to a limit, and no longer than
+        the time that is left: what is cut off while it is hot brings nothing."""
         assert self.plan is not None
-        least = min(max(self.production.units, _LEAST), _MOST)
+        least = min(max(self.production.units, _LEAST_SWAPS), _MOST_SWAPS)
         tries, began = least * _LONGER ** min(times - 1, _OFTEN), time.monotonic()
         if self.pace:
             tries = min(tries, _OF_LEFT * (self.sorting.ends - began) / self.pace)

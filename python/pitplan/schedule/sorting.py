@@ -13,10 +13,12 @@ import numpy as np
 
 from ..base.arrays import Bools, Floats, Ints
 from ..base.machine import processors
-from . import loops
-from .loops import Heat, Mine, Plan
+from . import highs, unit_moves, swaps
+from .unit_moves import InsertLimits, Mine, Plan, WantedUnits
+from .swaps import Heat
 from .production import Production
-from .sending import Timetable, send
+from .destinations import Timetable
+from .way_prices import sent_in
 
 _ALPHAS = (1e-6, 0.5, 0.95)  # shares from which on a unit counts as dug
 _FLOORS = (None, 1e-6, 0.5)  # shares that are needed before a unit may be dug; None: it may always
@@ -24,7 +26,7 @@ _PASSES = 50  # of single moves, at most
 _TURNS = 4  # of moves and of what is sent
 _SLACK = 1e-9
 _SEEDS = 1 << 10  # of one round of swaps between two periods
-_PIECE = 2000  # swaps between two looks at the clock
+_SWAPS_AT_A_TIME = 2000  # swaps between two looks at the clock
 _THREADS = 2
 _Swapped = TypeVar("_Swapped")
 _MOST_OUT = 4  # units that one try of a rebuilding takes out
@@ -82,31 +84,33 @@ class Sorting:
         millable = self.production.millable
         if not len(sent):
             return self.mine
-        more = [millable.summed(each * sent, self.production.units) for each in millable[2:]]
-        uses = self.mine.uses.copy()
-        uses[1] += more[1]
-        return self.mine._replace(values=self.mine.values + more[0], uses=uses)
+        return self.mine._replace(
+            values=self.mine.values + millable.gained(sent, self.production.units),
+            uses=self.mine.uses + millable.fed(sent, self.mine.uses.shape),
+        )
 
     def sent_in(self, period: Ints) -> Timetable:
-        """A schedule of some periods, in which those blocks are sent that gain most for their feed."""
-        made, millable = self.production, self.production.millable
-        of_blocks = period[millable.unit]
-        nothing = np.zeros(len(millable.block), bool)
-        left = (made.capacities - made.used(Timetable(period, nothing)))[1]
-        return Timetable(period, send(of_blocks, self.by_gain, millable.feeds, left))
+        """A schedule of some periods, in which those blocks are sent that gain most for their feed, of
+        several ways by prices."""
+        nothing = np.zeros(len(self.production.millable.block), bool)
+        left = self.loose(Timetable(period, nothing)).left
+        return Timetable(period, sent_in(self.production.millable, self.by_gain, period, left))
+
+    def resent(self, plan: Timetable) -> Timetable:
+        """A schedule of the same periods, with where blocks go chosen anew unless that is worth less."""
+        return self.better(self.sent_in(plan.period), plan) if len(plan.sent) else plan
 
     def by_shares(self, shares: Floats, multipliers: Ints) -> Iterator[Timetable]:
         """Schedules by some orders of the relaxation's shares, of shape (units, periods)."""
         made, rank = self.production, np.empty(self.production.units, np.int64)
         rank[self.order] = np.arange(made.units)
         mean = np.round(made.periods - shares.sum(axis=1), 6)
-        is_better = made.millable.left(made.weights, multipliers[1]) > 0
+        is_best, every = made.millable.best(made.weights, multipliers), made.millable.richest()
         for alpha in _ALPHAS:
             first = (shares < alpha - _SLACK).sum(axis=1)
-            sent = self.sent_at(first, is_better)
+            sent = self.sent_at(first, is_best)
             is_wanted = self.is_wanted(sent) & (first < made.periods)
-            if not sent.all():  # a schedule that sends all that pays is one of these too
-                every = sent | True
+            if (sent != every).any():  # a schedule that sends all that pays is one of these too
                 wanted = np.flatnonzero(self.is_wanted(every) & (first < made.periods))
                 wanted = wanted[np.lexsort([rank[wanted], mean[wanted], first[wanted]])]
                 yield self.by_order(wanted, np.zeros(made.units, np.int64), every)
@@ -121,11 +125,11 @@ class Sorting:
                     wanted = wanted[np.lexsort([key[wanted] for key in reversed(keys)])]
                     yield self.by_order(wanted, floor, sent)
 
-    def sent_at(self, period: Ints, is_better: Bools) -> Bools:
-        """Which blocks are sent where units are dug in some periods, by whether that is the better
-        way in each."""
+    def sent_at(self, period: Ints, is_best: Bools) -> Bools:
+        """Which ways blocks are sent where units are dug in some periods, by which is the best one in
+        each."""
         at = np.minimum(period, self.production.periods - 1)[self.production.millable.unit]
-        found: Bools = is_better[np.arange(len(at)), at]
+        found: Bools = is_best[np.arange(len(at)), at]
         return found
 
     def is_wanted(self, sent: Bools) -> Bools:
@@ -138,16 +142,17 @@ class Sorting:
         """The schedule of the order that needs no relaxation: shell after shell, bench by bench."""
         made = self.production
         order = self.order[np.argsort(made.shell[self.order], kind="stable")]
-        every = np.ones(len(made.millable.block), bool)
+        every = made.millable.richest()
         return self.by_order(order, np.zeros(made.units, np.int64), every)
 
     def by_order(self, wanted: Ints, floor: Ints, sent: Bools) -> Timetable:
         """The schedule of an order of wanted units of which some blocks are sent, after single
         moves."""
         mine = self.mine_of(sent)
-        order = loops.cone_order(mine, wanted)
+        order = unit_moves.cone_order(mine, wanted)
         left = self.production.capacities.copy()
-        return self.moved(self.sent_in(loops.sort_into(mine, order, floor, left)))
+        period = unit_moves.sort_into(mine, order, floor, left)
+        return self.moved(self.resent(Timetable(period, sent)))
 
     def moved(self, plan: Timetable) -> Timetable:
         """A schedule after single moves, each to the period where the unit is worth most, in turns
@@ -155,7 +160,7 @@ class Sorting:
         for _ in range(_TURNS):
             mine, more = self.mine_of(plan.sent), self.loose(plan)
             for _ in range(_PASSES):
-                if self.is_late or not loops.move_units(
+                if self.is_late or not unit_moves.move_units(
                     mine, more, self.order, self.production.weights
                 ):
                     break
@@ -188,29 +193,35 @@ class Sorting:
         def swap(s: int) -> None:
             most = tries + int(counts[s : s + 2].sum())
             begin = (seed * len(steps) + s) * _SEEDS
-            for done in range(0, most, _PIECE):
+            for done in range(0, most, _SWAPS_AT_A_TIME):
                 if self.is_late:
                     break
-                heat, piece = Heat(steps[s], 0.0), min(_PIECE, most - done)
-                loops.swap_units(mine, more, s, piece, begin + done // _PIECE, heat)
+                heat, piece = Heat(steps[s], 0.0), min(_SWAPS_AT_A_TIME, most - done)
+                swaps.swap_units(mine, more, s, piece, begin + done // _SWAPS_AT_A_TIME, heat)
 
         for first in range(2):
             self.at_once(swap, range(first, len(steps), 2))
-        return self.moved(self.sent_in(more.period))
+        return self.moved(self.resent(Timetable(more.period, plan.sent)))
 
     def at_once(self, swap: Callable[[int], _Swapped], periods: Iterable[int]) -> list[_Swapped]:
         """Does something with each of some periods and the next, which no other of them has, by
         `threads`. What one of two such pairs may do doesn't depend on the other: units that a pair
         has stay in it. A lag of more periods than one reaches across a pair, and then one comes after
-        the other."""
+        the other. Ctrl-C, and an error of one of them, ends the others."""
         if self.threads == 1 or len(self.production.sinking.other) and self.mine.lag > 1:
             return [swap(s) for s in periods]
         with ThreadPoolExecutor(self.threads) as pool:
-            return list(pool.map(swap, periods))
+            try:
+                return list(pool.map(swap, periods))
+            except BaseException:
+                self.ends = -math.inf
+                highs.stop()
+                pool.shutdown(wait=False, cancel_futures=True)
+                raise
 
     @property
     def steps(self) -> Ints:
-        """The weight of each period less that of the next; behind the last comes none."""
+        """The weight of each period less that of the next; after the last comes none."""
         weights = self.production.weights
         found: Ints = weights - np.append(weights[1:], 0)
         return found
@@ -229,15 +240,16 @@ class Sorting:
             out = random.permutation(dug)[: random.integers(_MOST_OUT)]
             if random.random() < 0.3:
                 out = dug[more.period[dug] >= random.integers(made.periods)]
-            loops.take_out(mine, more, out)
+            unit_moves.take_out(mine, more, out)
             wanted = np.flatnonzero((mine.values > 0) & (more.period == made.periods))
             wanted = wanted[np.argsort(-mine.values[wanted] * random.random(len(wanted)))]
             later = random.random(made.units) < random.random() * random.integers(2)
             floor = later * random.integers(0, made.periods, made.units)
             least = -int(mine.values.max(initial=0) * made.weights[0]) * (random.random() < 0.3)
-            limits = least, _MOST_LOOKS * made.units
-            loops.insert_units(mine, more, (wanted, floor), made.weights, limits)
-            other = self.shortened(self.moved(self.sent_in(more.period)))
+            limits = InsertLimits(least, _MOST_LOOKS * made.units)
+            unit_moves.insert_units(mine, more, WantedUnits(wanted, floor), made.weights, limits)
+            resent = self.resent(Timetable(more.period, plan.sent))
+            other = self.shortened(self.moved(resent))
             found = made.npv(other)
             if found >= worth:
                 plan, worth = other, found
@@ -258,5 +270,5 @@ class Sorting:
         return Timetable(np.where(plan.period < end, plan.period, made.periods), plan.sent)
 
     def loose(self, plan: Timetable) -> Plan:
-        """A schedule as loops change it."""
+        """A schedule as moves and swaps change it."""
         return Plan(plan.period.copy(), self.production.capacities - self.production.used(plan))

@@ -12,23 +12,35 @@ import pandas as pd
 from ..base.amounts import THOUSAND
 from ..base.arrays import Bools, Floats, Indices, Ints
 from ..model import outlines
+from ..model.economics import NAME_SEPARATOR
 from ..plans import widths
+from .full_rates import full_rates
 from .terms import MILLION
 
 if TYPE_CHECKING:
+    from ..study.study import Study
     from .plan import Schedule
 
 _FULL = 0.995  # of a capacity, from which on it is said to bind
 
 
-def binds_text(row: Mapping[Any, Any]) -> str:
-    """What binds in a period, by its row of `Tables.years`: of the sink rate a column of blocks, and
-    the bench that has to wait there."""
-    found = str(row["binds"])
-    if "sink" not in found:
+def binds_text(row: Mapping[Any, Any], is_short: bool = False) -> str:
+    """What binds in a period, by its row of `Tables.years`: of the sink rate a column of blocks, its
+    place to a tenth, and the bench that has to wait there; the bench alone where it `is_short`."""
+    found, bench = str(row["binds"]), float(row.get("sink_bench", np.nan))
+    if np.isnan(bench):
         return found
-    x, y, bench = (f"{row[f'sink_{name}']:,.10g}" for name in ("x", "y", "bench"))
-    return found.replace("sink", f"sink (x {x}, y {y}: bench {bench} waits)")
+    rates = found.removesuffix("sink")  # it comes last
+    if is_short:
+        return f"{rates}sink: bench {bench:,.10g}"
+    x, y = (f"{row[f'sink_{name}']:,.1f}" for name in ("x", "y"))
+    return f"{rates}sink (x {x}, y {y}: bench {bench:,.10g} waits)"
+
+
+def _tonnes_of(study: Study) -> Floats:
+    """The tonnes of each block."""
+    found: Floats = study.model.blocks.tonnes.to_numpy(float)
+    return found
 
 
 @dataclass(frozen=True)
@@ -48,21 +60,19 @@ class Tables:
     @cached_property
     def amounts(self) -> dict[str, Floats]:
         """What is added up, by block: tonnes, what is dug for and what is worth."""
-        study, sent = self.schedule.shells.study, self.schedule.sent
-        priced, tonnes = study.priced, study.model.blocks.tonnes.to_numpy(float)
-        ore = priced.ore_of(tonnes, THOUSAND) * sent
-        gain = priced.gains(THOUSAND) // THOUSAND * float(priced.rounding)
-        feeds = [feed * sent for feed in priced.feeds_of(tonnes, THOUSAND)]
+        study = self.schedule.shells.study
+        priced, tonnes = study.priced.sent_by(self.schedule.goes), _tonnes_of(study)
+        ore, feeds = priced.ore_of(tonnes, THOUSAND), priced.feeds_of(tonnes, THOUSAND)
         found = {
             "rock_t": tonnes,
             "ore_t": ore,
             "waste_t": tonnes - ore,
             "feed_t": sum(feeds[1:], feeds[0]),
-            "cash_flow": priced.worth(THOUSAND) - gain * (priced.treated(THOUSAND) & ~sent),
+            "cash_flow": priced.worth(THOUSAND),
         }
         for name, metal in priced.metal_of(THOUSAND).items():
             found[f"grade_{name}"] = priced.grade[name] * ore
-            found[f"metal_{name}"] = metal * sent
+            found[f"metal_{name}"] = metal
         for (way, here), feed in zip(
             priced.by_way(THOUSAND) if priced.process_names else (), feeds
         ):
@@ -70,7 +80,7 @@ class Tables:
             found |= {f"{before}ore_t": ore * here, f"{before}feed_t": feed}
             for name, metal in way.metal.items():
                 found[f"{before}grade_{name}"] = priced.grade[name] * ore * here
-                found[f"{before}metal_{name}"] = metal * sent * here
+                found[f"{before}metal_{name}"] = metal * here
         return found
 
     def summed(self, here: Bools) -> dict[str, Any]:
@@ -97,13 +107,15 @@ class Tables:
             ``strip``, ``feed_t``; for each metal ``grade_<metal>`` (of the ore in place) and
             ``metal_<metal>`` (recovered), and where there are several processes the columns of
             `pit_by_pit.Cells.by_process`; ``fixed_cost`` where there is one, ``cash_flow``
-            (undiscounted, less the fixed cost), ``weight`` (what money of
-            the period is worth today), ``discounted``, ``npv`` (so far); ``mining_used`` and
-            ``mill_used`` (shares of the capacities; of several processes ``process_<name>_used``), ``binds`` (which of ``mining``, ``mill`` and
-            ``sink`` do), with a sink rate ``sink_columns`` (of blocks in which it binds),
-            ``sink_x``, ``sink_y`` and ``sink_bench`` (centre of the lowest block that it keeps out
-            of the period), ``bottom`` (the toe of its lowest bench), and with a mining width
-            ``narrow_share`` of its rock.
+            (undiscounted, less the fixed cost), ``weight`` (what money of the period is worth
+            today), ``discounted``, ``npv`` (so far); ``mining_used`` and ``mill_used`` (shares of
+            the capacities; of several processes ``process_<name>_used``), ``binds`` (which of
+            ``mining``, ``mill`` or each process by its name, and ``sink`` do, joined by
+            `NAME_SEPARATOR`: a rate of which 0.995 or more is used, or that is full as `full_rates`
+            says), with a sink rate
+            ``sink_columns`` (of blocks in which it binds), ``sink_x``, ``sink_y`` and
+            ``sink_bench`` (centre of the lowest block that it keeps out of the period), ``bottom``
+            (the toe of its lowest bench), and with a mining width ``narrow_share`` of its rock.
         """
         made, period = self.schedule.production, self.schedule.period
         rows, npv = list[dict[str, Any]](), 0.0
@@ -133,7 +145,11 @@ class Tables:
         for name, room, column in zip(terms.resources, terms.capacities, columns):
             used = float(amounts[column][here].sum()) * THOUSAND
             shares[name] = used / room[t] if room and room[t] else np.nan
-        tight = [name for name, share in shares.items() if share >= _FULL]
+        tight = [
+            name
+            for r, (name, share) in enumerate(shares.items())
+            if share >= _FULL or self.full_rates[r, t]
+        ]
         sunk = self.sunk(t) if terms.sink is not None else {}
         tight += ["sink"] if sunk.get("sink_columns") else []
         return (
@@ -141,7 +157,7 @@ class Tables:
                 f"{'process_' if name in names else ''}{name}_used": share
                 for name, share in shares.items()
             }
-            | {"binds": " ".join(tight)}
+            | {"binds": NAME_SEPARATOR.join(tight)}
             | sunk
         )
 
@@ -171,6 +187,11 @@ class Tables:
             above = made.above.other[made.above.first[gate] : made.above.first[gate + 1]]
             found[gate] = found[above].max(initial=0)
         return found
+
+    @cached_property
+    def full_rates(self) -> Bools:
+        """As `full_rates` says of the schedule."""
+        return full_rates(self.schedule.production, self.unit_period, self.schedule.goes)
 
     @cached_property
     def kept_by_sink(self) -> Ints:
@@ -223,7 +244,7 @@ class Tables:
     def tonnes_cube(self) -> Floats:
         """The tonnes of each place."""
         model = self.schedule.shells.study.model
-        return outlines.cube_of(model, model.blocks.tonnes.to_numpy(float), 0.0)
+        return outlines.cube_of(model, _tonnes_of(self.schedule.shells.study), 0.0)
 
     def benches(self) -> pd.DataFrame:
         """A row for each period and bench that it digs rock on, from the top: ``period``, ``year``,

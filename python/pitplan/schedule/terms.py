@@ -4,22 +4,28 @@ from __future__ import annotations
 
 import math
 from collections.abc import Collection, Mapping, Sequence
+from contextlib import suppress
 from dataclasses import dataclass
 from decimal import Decimal, localcontext
 from typing import Any
 
-from ..base.amounts import THOUSAND
-from ..base.errors import Gathered, PlanError, Remedy, about
+from ..base.amounts import THOUSAND, rounding_of
+from ..base.errors import Gathered, PlanError, about
+from ..base.near_words import meant
 from ..base.units_shown import counted, share_text
 from ..study.shells import thousandths
 from ..study.study_file import StudyFile
+from ..table.study_keys import with_defaults
 
 MILLION = 10**6  # weights are in millionths
 GRAIN = 1000  # parts of a tonne in which rock and feed are counted
 _MOST_PERIODS = 200
+_MOST_YEARS = 100  # that study.toml takes
 _MOST_CAPACITY = 10**12  # of a period, that `pit` reads
 _WHEN = {"start": Decimal(0), "mid": Decimal("0.5"), "end": Decimal(1)}
 _CUTOFFS = ("fixed", "by year")
+_RATES = ("mining_rate", "mill_rate")
+_OF_PROCESS = "rate of process "  # before its name, in errors
 _RESOURCES = ("mining", "mill")  # in the order of the rows of capacities, where there is one mill
 _MOST_RESOURCES = 8  # that `pit` reads
 
@@ -42,7 +48,8 @@ class Terms:
     panel : int
         Blocks by blocks on a bench that are dug together.
     is_by_year : bool
-        Whether a block that the mill may take goes there or to waste, whichever the schedule says.
+        Whether a block that the mill, or its process, may take goes there or to waste, whichever the
+        schedule says.
     pushbacks : tuple of int
         Factors in thousandths of the pits after which a pushback ends; the last pushback is the
         rest. Empty where there is one.
@@ -82,7 +89,7 @@ def terms_of(
         The values of [schedule], None where it says nothing.
     rates : mapping
         Those that [shells] gives of ``mining_rate``, ``mill_rate`` and ``discount``, and
-        ``process_rates``, of each process by its name, where there are some.
+        ``process_rates``, of each process by its name and in their order, where there are some.
     rock, feed : float
         Tonnes of the pit, which say how many years there are where nothing else does; of several
         processes the feed of each.
@@ -90,41 +97,18 @@ def terms_of(
     Raises
     ------
     PlanError
-        Where neither rate is given, a list has other years than `years`, or a number is out of
-        range.
+        What `_wrong_values` finds, all of it; or where the tonnes ask for too many periods.
     """
-    processes: Mapping[str, float | None] = (
-        values.get("process_rates") or rates.get("process_rates") or {}
-    )
-    _refuse_by_year(processes, values.get("cutoff"))
-    _refuse_processes(processes)
-    mills = list(processes.values()) or [values.get("mill_rate") or rates.get("mill_rate")]
-    yearly = list(map(_by_year, [values.get("mining_rate") or rates.get("mining_rate"), *mills]))
-    if not any(yearly):
-        of_mill = "mill_rate" if not processes else "a process that has a rate"
-        raise PlanError(
-            f"[schedule] has neither mining_rate nor {of_mill}, and [shells] hasn't either",
-            try_this="mining_rate = 20e6 in [schedule]: tonnes of rock a year",
-            key=("schedule",),
-        )
-    per_year = int(values.get("per_year") or 1)
-    years = values.get("years")
+    wrong = _wrong_values(values, rates)
+    wrong.tell()
+    processes = process_rates_of(values, rates)
+    by_name = _yearly_of(values, rates, processes)
+    yearly, per_year, years = list(by_name.values()), _per_year_of(values), values.get("years")
     feeds = [feed] if isinstance(feed, (int, float)) else list(feed)
-    years = int(years) if years is not None else _years_for(yearly, [rock, *feeds])
-    _refuse_lists(yearly, years)
-    if years * per_year > _MOST_PERIODS:
-        raise PlanError(
-            f"[schedule] {counted(years, 'year')} of {counted(per_year, 'period')} each"
-            f" {'comes' if years == 1 else 'come'} to more than {_MOST_PERIODS} periods",
-            try_this=f"years = {_MOST_PERIODS // per_year}, or higher rates in tonnes a year",
-            key=("schedule",),
-        )
-    if values.get("lead") and not values.get("pushbacks"):
-        raise PlanError(
-            "[schedule] lead says how far pushbacks are ahead, and there are none",
-            try_this="pushbacks = [0.5, 0.75], of the factors in [shells]; or take lead out",
-            key=("schedule", "lead"),
-        )
+    if years is None:
+        years = _years_for(by_name, [rock, *feeds], values, per_year)
+    years = int(years)
+    _refuse_periods(years, per_year)
     discount = values.get("discount")
     return Terms(
         _weights(
@@ -133,10 +117,7 @@ def terms_of(
             _WHEN[str(values.get("when") or "mid")],
             per_year,
         ),
-        tuple(
-            _capacities(name, rate, years, per_year)
-            for name, rate in zip(["mining_rate", *_keys_of(processes)], yearly)
-        ),
+        tuple(_capacities(rate, years, per_year) for rate in yearly),
         per_year,
         values.get("sink"),
         int(values.get("panel") or 1),
@@ -148,38 +129,119 @@ def terms_of(
     )
 
 
-def _keys_of(processes: Mapping[str, float | None]) -> list[str]:
-    """How errors call the rate of the mill, or of each process."""
-    return [f"rate of process {name}" for name in processes] or ["mill_rate"]
-
-
-def _refuse_by_year(processes: Mapping[str, float | None], cutoff: str | None) -> None:
-    """Refuses a cut-off by year beside several processes.
+def _wrong_values(values: Mapping[str, Any], rates: Mapping[str, Any]) -> Gathered:
+    """Each error of [schedule] that can be told without a pit.
 
     Parameters
     ----------
-    processes : mapping of str to float or None
-        The rate of each, by its name.
-    cutoff : str or None
-        As [schedule] says it.
+    values, rates : mapping
+        As of `terms_of`.
+    """
+    found, per_year, years = Gathered(), _per_year_of(values), values.get("years")
+    with found.part("schedule", "process_rates"):
+        processes = process_rates_of(values, rates)
+        with found.part():
+            _refuse_processes(processes)
+        yearly = _yearly_of(values, rates, processes)
+        if not any(yearly.values()):
+            found.add([_without_rates(bool(processes))])
+        for name, of_years in yearly.items():
+            with found.part("schedule", name if name in _RATES else "process_rates"):
+                _refuse_amounts(name, of_years, per_year)
+                _refuse_longer(name, of_years, years)
+    with found.part("schedule", "pushbacks"):
+        pushbacks_of(values.get("pushbacks") or ())
+    with found.part("schedule", "lead"):
+        _refuse_lead(values)
+    with found.part("schedule", "fixed_cost"):
+        _fixed_cost_of(values.get("fixed_cost") or 0, per_year)
+    with found.part("schedule"):
+        _refuse_periods(int(years or 1), per_year)
+    return found
+
+
+def _per_year_of(values: Mapping[str, Any]) -> int:
+    """Periods in a year."""
+    return int(values.get("per_year") or 1)
+
+
+def _yearly_of(
+    values: Mapping[str, Any], rates: Mapping[str, Any], processes: Mapping[str, Rate]
+) -> dict[str, list[float]]:
+    """The rates of the years, by what errors call them; empty where there is none."""
+    mills = list(processes.values()) or [values.get("mill_rate") or rates.get("mill_rate")]
+    names = ["mining_rate", *_keys_of(processes)]
+    told = [values.get("mining_rate") or rates.get("mining_rate"), *mills]
+    return {name: _by_year(rate) for name, rate in zip(names, told)}
+
+
+def _without_rates(has_processes: bool) -> PlanError:
+    """The error of a plan that nothing limits."""
+    of_mill = "a process that has a rate" if has_processes else "mill_rate"
+    return PlanError(
+        f"[schedule] has neither mining_rate nor {of_mill}, and [shells] hasn't either",
+        try_this="mining_rate = 20e6 in [schedule]: tonnes of rock a year",
+        key=("schedule",),
+    )
+
+
+def _refuse_periods(years: int, per_year: int) -> None:
+    """Refuses more periods than may be."""
+    if years * per_year > _MOST_PERIODS:
+        raise PlanError(
+            f"[schedule] {counted(years, 'year')} of {counted(per_year, 'period')} each"
+            f" {'comes' if years == 1 else 'come'} to more than {_MOST_PERIODS} periods",
+            try_this=f"years = {_years_that_go(per_year)}, or fewer periods in a year (per_year)",
+            key=("schedule",),
+        )
+
+
+def _refuse_lead(values: Mapping[str, Any]) -> None:
+    """Refuses a lead of no pushbacks."""
+    if values.get("lead") and not values.get("pushbacks"):
+        raise PlanError(
+            "[schedule] lead says how far pushbacks are ahead, and there are none",
+            try_this="pushbacks = [0.5, 0.75], of the factors in [shells]; or take lead out",
+            key=("schedule", "lead"),
+        )
+
+
+Rate = float | Sequence[float] | None  # of a process: of each year, or by year
+
+
+def process_rates_of(values: Mapping[str, Any], rates: Mapping[str, Any]) -> dict[str, Rate]:
+    """The rate of each process by its name, in their order: that of [schedule], and else its own;
+    nothing where there are none.
+
+    Parameters
+    ----------
+    values, rates : mapping
+        As of `terms_of`.
 
     Raises
     ------
     PlanError
-        With what to try.
+        Where [schedule] names a process that isn't there.
     """
-    if cutoff == _CUTOFFS[1] and len(processes) > 1:
-        raise PlanError(
-            '[schedule] cutoff = "by year" chooses between one mill and waste, and there are'
-            f" {len(processes)} processes",
-            try_this='cutoff = "fixed": each block goes where it is worth most at the full price',
-            key=("schedule", "cutoff"),
-        ).with_remedy(Remedy(("schedule", "cutoff"), "fixed"))
+    own: Mapping[str, Rate] = rates.get("process_rates") or {}
+    told: Mapping[str, Rate] = values.get("process_rates") or {}
+    for name in told:
+        if name not in own:
+            at = ("schedule", "process_rates")
+            said = f"[schedule] process_rates names {name!r}, and no process is called so"
+            better = ", ".join(own) or "mill_rate, of a study without [[economics.processes]]"
+            raise PlanError(said + meant(name, own), try_this=better, key=at)
+    return {**own, **told}
+
+
+def _keys_of(processes: Mapping[str, Rate]) -> list[str]:
+    """How errors call the rate of the mill, or of each process."""
+    return [f"{_OF_PROCESS}{name}" for name in processes] or ["mill_rate"]
 
 
 def wrong_terms(plan: StudyFile, then: str) -> list[PlanError]:
-    """What `pitplan schedule` would refuse of a study.toml that is right by itself: a cut-off by
-    year beside several processes; pushbacks that don't ascend, or end at no pit of the series.
+    """What `pitplan schedule` would refuse of a study.toml that is right by itself, each with its key:
+    nothing where [schedule] asks for nothing.
 
     Parameters
     ----------
@@ -187,15 +249,43 @@ def wrong_terms(plan: StudyFile, then: str) -> list[PlanError]:
     then : str
         The command that finds further pits.
     """
-    found, values = Gathered(), plan.values["schedule"]
-    with found.part("schedule", "cutoff"):
-        _refuse_by_year(plan.economics.rates.get("process_rates", {}), values["cutoff"])
-    with found.part("schedule", "pushbacks"):
-        refuse_missing(pushbacks_of(values["pushbacks"] or ()), plan.factors, then)
+    values = plan.values["schedule"]
+    if values == with_defaults("schedule", {}):
+        return []
+    found = _wrong_values(values, plan.rates)
+    with found.part("economics", "rounding"):
+        refuse_parts(rounding_of(plan.economics.rounding))
+    with found.part("shells", "factors"):
+        refuse_no_full_price(plan.factors, then)
+    with suppress(PlanError):  # which is told already
+        pushbacks = pushbacks_of(values.get("pushbacks") or ())
+        with found.part("schedule", "pushbacks"):
+            refuse_missing(pushbacks, plan.factors, then)
     return found.errors
 
 
-def _refuse_processes(processes: Mapping[str, float | None]) -> None:
+def refuse_parts(rounding: Decimal) -> None:
+    """Refuses amounts that aren't whole units of currency."""
+    if rounding != int(rounding):
+        raise PlanError(
+            f"[economics] rounding = {rounding:f}, and a schedule counts in whole units of currency",
+            try_this="rounding = 1",
+            key=("economics", "rounding"),
+        )
+
+
+def refuse_no_full_price(factors: Collection[int], then: str) -> None:
+    """Refuses a series without the pit at the full price; `then` is the command that finds further
+    pits."""
+    if THOUSAND not in factors:
+        raise PlanError(
+            "a schedule digs the best pit at the full price, and [shells] factors has no 1.0",
+            try_this=f"1.0 among the factors, and {then}",
+            key=("shells", "factors"),
+        )
+
+
+def _refuse_processes(processes: Mapping[str, Rate]) -> None:
     """Refuses more processes than `pit` reads the uses of."""
     if len(processes) >= _MOST_RESOURCES:
         raise PlanError(
@@ -291,9 +381,47 @@ def _by_year(rate: Any) -> list[float]:
     return [float(rate)] if isinstance(rate, (int, float)) else [float(each) for each in rate]
 
 
-def _years_for(yearly: list[list[float]], tonnes: Sequence[float]) -> int:
-    """As many years as the rates need for these tonnes, and one more: what binds alternates."""
-    return 1 + max(_years_of(rates, total) for rates, total in zip(yearly, tonnes) if rates)
+def _years_for(
+    by_name: Mapping[str, list[float]],
+    tonnes: Sequence[float],
+    values: Mapping[str, Any],
+    per_year: int,
+) -> int:
+    """As many years as the rates need for these tonnes, and one more: what binds alternates.
+
+    Raises
+    ------
+    PlanError
+        Where these are more periods than may be, with the rate that asks for them.
+    """
+    total_of = dict(zip(by_name, tonnes))
+    needs = {name: _years_of(each, total_of[name]) for name, each in by_name.items() if each}
+    name = max(needs, key=lambda each: needs[each])
+    if (1 + needs[name]) * per_year > _MOST_PERIODS:
+        told, what = by_name[name], "rock" if name == "mining_rate" else "feed"
+        rates = f"{told[0]:g}" if len(told) == 1 else f"[{', '.join(f'{rate:g}' for rate in told)}]"
+        raise PlanError(
+            f"{name} = {rates} tonnes a year: the {total_of[name]:,.0f} tonnes of {what} of the pit"
+            f" take {needs[name]:,} years, and a schedule has at most {_MOST_PERIODS} periods",
+            try_this=f"{name} in tonnes a year, as 4e6; or years = {_years_that_go(per_year)} in [schedule]",
+            key=_place_of(name, values),
+        )
+    return 1 + needs[name]
+
+
+def _years_that_go(per_year: int) -> int:
+    """The most years that there may be."""
+    return min(_MOST_PERIODS // per_year, _MOST_YEARS)
+
+
+def _place_of(name: str, values: Mapping[str, Any]) -> tuple[str, ...]:
+    """Where study.toml has a rate, by what errors call it."""
+    if name in _RATES:
+        return ("schedule" if values.get(name) else "shells", name)
+    process = name.removeprefix(_OF_PROCESS)
+    if process in (values.get("process_rates") or {}):
+        return ("schedule", "process_rates")
+    return ("economics", "processes", process, "rate")
 
 
 def _years_of(rates: list[float], total: float) -> int:
@@ -305,29 +433,37 @@ def _years_of(rates: list[float], total: float) -> int:
     return len(rates) + min(math.ceil(total / rates[-1]), 10**9)
 
 
-def _refuse_lists(yearly: list[list[float]], years: int) -> None:
-    """Refuses a rate by year that goes beyond the last year."""
-    for name, rates in zip(("mining_rate", "mill_rate"), yearly):
-        if len(rates) > years:
-            raise PlanError(
-                f"[schedule] {name} has {counted(len(rates), 'year')}, and the schedule {years:,}",
-                try_this=f"years = {len(rates)}, or a shorter list: its last rate stays",
-                key=("schedule", name),
-            )
-
-
-def _capacities(name: str, rates: list[float], years: int, per_year: int) -> tuple[int, ...]:
-    """What each period has, in thousandths of a tonne, rounded down; the last rate stays. The name
-    is what errors call the rate."""
-    if not rates:
-        return ()
-    found = [int(Decimal(str(rate)) * GRAIN / per_year) for rate in rates]
-    if max(found) > _MOST_CAPACITY:
+def _refuse_longer(name: str, yearly: Sequence[float], years: int | None) -> None:
+    """Refuses a rate by year that goes beyond the last year, where study.toml says which that is: else
+    there are as many as the pit needs, and what is beyond isn't asked for."""
+    if years is not None and len(yearly) > years:
         raise PlanError(
-            f"[schedule] {name} = {max(rates):g} is more than {_MOST_CAPACITY / GRAIN:,.0f}"
+            f"[schedule] {name} has {counted(len(yearly), 'year')}, and the schedule {years:,}",
+            try_this=f"years = {len(yearly)}, or a shorter list: its last rate stays",
+            key=("schedule", name if name in _RATES else "process_rates"),
+        )
+
+
+def _refuse_amounts(name: str, yearly: Sequence[float], per_year: int) -> None:
+    """Refuses a rate that is too large to count with."""
+    if any(amount > _MOST_CAPACITY for amount in _by_period(yearly, per_year)):
+        raise PlanError(
+            f"[schedule] {name} = {max(yearly):g} is more than {_MOST_CAPACITY / GRAIN:,.0f}"
             " tonnes in a period",
             try_this=f"{name} in tonnes a year",
-            key=("schedule", name),
+            key=("schedule", name if name in _RATES else "process_rates"),
         )
+
+
+def _by_period(yearly: Sequence[float], per_year: int) -> list[int]:
+    """What a period of each year has, in thousandths of a tonne, rounded down."""
+    return [int(Decimal(str(rate)) * GRAIN / per_year) for rate in yearly]
+
+
+def _capacities(yearly: Sequence[float], years: int, per_year: int) -> tuple[int, ...]:
+    """What each period has, in thousandths of a tonne; the last rate stays."""
+    if not yearly:
+        return ()
+    found = _by_period(yearly, per_year)[:years]
     found += [found[-1]] * (years - len(found))
     return tuple(each for each in found for _ in range(per_year))

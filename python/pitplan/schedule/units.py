@@ -6,7 +6,6 @@ bench and above. It is a unit without rock: it rests on them, and what comes lat
 """
 from __future__ import annotations
 
-from collections.abc import Sequence
 from typing import TYPE_CHECKING, NamedTuple
 
 import numpy as np
@@ -14,7 +13,7 @@ import numpy as np
 from ..base.arrays import Bools, Ints
 from ..base.errors import PlanError
 from ..base.next_command import command
-from ..study.resting import Resting
+from ..study.predecessors import Resting
 from .pairs import Pairs
 
 if TYPE_CHECKING:
@@ -48,6 +47,28 @@ class Units(NamedTuple):
         return found
 
 
+class _Gated(NamedTuple):
+    """Units with the gates after them, and the pairs that gates have: what rests, and on what."""
+
+    units: Units
+    resting: Ints
+    on: Ints
+
+
+class _PitPairs(NamedTuple):
+    """The pairs of a pit's blocks: by the slopes, and by the sink rate."""
+
+    above: Pairs
+    sinking: Pairs
+
+
+class _Rows(NamedTuple):
+    """Pairs of units, as two columns."""
+
+    units: Ints
+    others: Ints
+
+
 def units_of(study: Study, blocks: Ints, pushback: Ints, panel: int) -> Units:
     """The units of a pit's blocks, of which the pushback is given: panels are squares of the plan,
     from the model's corner, of one pushback each."""
@@ -61,15 +82,15 @@ def units_of(study: Study, blocks: Ints, pushback: Ints, panel: int) -> Units:
     return Units(unit.astype(np.int64), benches % nz, benches // nz)
 
 
-def gated(units: Units, lead: int) -> tuple[Units, Ints, Ints]:
-    """The units and the gates behind them, and the pairs that gates have: what rests, and on what.
+def gated(units: Units, lead: int) -> _Gated:
+    """The units and the gates between their pushbacks.
 
     A unit of a later pushback rests on the gate `lead` benches below its own of the pushback before
     it.
     """
     last, count = int(units.pushback.max()), units.size
     if not last:
-        return units, np.zeros(0, np.int64), np.zeros(0, np.int64)
+        return _Gated(units, np.zeros(0, np.int64), np.zeros(0, np.int64))
     low, high = int(units.level.min()), int(units.level.max())
     level = np.tile(np.arange(high, low - 1, -1), last)
     pushback = np.repeat(np.arange(last), high - low + 1)
@@ -79,21 +100,24 @@ def gated(units: Units, lead: int) -> tuple[Units, Ints, Ints]:
         return found
 
     inner, later = np.flatnonzero(units.pushback < last), np.flatnonzero(units.pushback > 0)
-    below, behind = np.flatnonzero(level < high), np.flatnonzero(pushback > 0)
+    below, later_gates = np.flatnonzero(level < high), np.flatnonzero(pushback > 0)
     pairs = (
         (gate(units.pushback[inner], units.level[inner]), inner),
         (later, gate(units.pushback[later] - 1, units.level[later] - lead)),
         (count + below, count + below - 1),
-        (count + behind, gate(pushback[behind] - 1, level[behind])),
+        (count + later_gates, gate(pushback[later_gates] - 1, level[later_gates])),
     )
     more = Units(
         units.of_blocks, np.append(units.level, level), np.append(units.pushback, pushback)
     )
-    return more, np.concatenate([low for low, _ in pairs]), np.concatenate([up for _, up in pairs])
+    resting, on = (np.concatenate(column) for column in zip(*pairs))
+    return _Gated(more, resting, on)
 
 
-def pairs_of(study: Study, sink: int | None, blocks: Ints) -> tuple[Pairs, Pairs]:
-    """The pairs of the slopes within a pit, and those of the sink rate, by places in `blocks`."""
+def pairs_of(study: Study, sink: int | None, blocks: Ints) -> _PitPairs:
+    """The pairs of the slopes within a pit, and those of the sink rate, by places in `blocks`.
+    Raises PlanError where a block rests on one outside the pit, or where a sink rate needs the
+    block straight above and the slopes don't."""
     resting = Resting(study)
     place = np.full(study.manifest["blocks"], -1, np.int64)
     place[blocks] = np.arange(len(blocks))
@@ -110,7 +134,7 @@ def pairs_of(study: Study, sink: int | None, blocks: Ints) -> tuple[Pairs, Pairs
         )
     above = Pairs.of(place[below], place[over], len(blocks))
     if sink is None:
-        return above, Pairs.of(np.zeros(0, np.int64), np.zeros(0, np.int64), len(blocks))
+        return _PitPairs(above, Pairs.of(np.zeros(0, np.int64), np.zeros(0, np.int64), len(blocks)))
     straight = [offsets for offsets in resting.offsets if (0, 0, 1) not in offsets]
     if straight:
         raise PlanError(
@@ -129,7 +153,7 @@ def pairs_of(study: Study, sink: int | None, blocks: Ints) -> tuple[Pairs, Pairs
         at = np.where(at >= 0, step[at], -1)
     lower = np.flatnonzero((at >= 0) & is_rock)
     lower = lower[is_rock[at[lower]]]
-    return above, Pairs.of(lower, at[lower], len(blocks))
+    return _PitPairs(above, Pairs.of(lower, at[lower], len(blocks)))
 
 
 def waits_of(study: Study, sink: int, blocks: Ints) -> Ints:
@@ -145,18 +169,20 @@ def waits_of(study: Study, sink: int, blocks: Ints) -> Ints:
     return np.where(waits & is_rock[found], found, blocks).astype(np.int64)
 
 
-def of_units(pairs: Pairs, units: Units, is_apart: bool, more: Sequence[Ints] = ()) -> Pairs:
-    """The pairs of units that some of their blocks have, and others; within a unit none where
-    `is_apart`."""
+def of_units(pairs: Pairs, units: Units, is_apart: bool, gates: _Gated | None = None) -> Pairs:
+    """The pairs of units that some of their blocks have, and those of gates; within a unit none
+    where `is_apart`."""
     below, over = units.of_blocks[pairs.blocks], units.of_blocks[pairs.other]
     keep: Bools = below != over if is_apart else np.ones(len(below), bool)
-    low, high = more or (np.zeros(0, np.int64), np.zeros(0, np.int64))
-    return Pairs.of(np.append(below[keep], low), np.append(over[keep], high), units.size)
+    low, high = below[keep], over[keep]
+    if gates is not None:
+        low, high = np.append(low, gates.resting), np.append(high, gates.on)
+    return Pairs.of(low, high, units.size)
 
 
-def rows_of(pairs: Pairs, units: Ints) -> tuple[Ints, Ints]:
+def rows_of(pairs: Pairs, units: Ints) -> _Rows:
     """The pairs of some units."""
     counts = pairs.first[units + 1] - pairs.first[units]
     rows = np.repeat(units, counts)
     starts = np.repeat(pairs.first[units] - np.append(0, np.cumsum(counts)[:-1]), counts)
-    return rows, pairs.other[starts + np.arange(len(rows))]
+    return _Rows(rows, pairs.other[starts + np.arange(len(rows))])

@@ -9,24 +9,26 @@ from __future__ import annotations
 
 import hashlib
 import json
-from collections.abc import Mapping, Sequence
+from collections.abc import Iterable, Mapping
 from dataclasses import asdict, dataclass
 from pathlib import Path
-from typing import TYPE_CHECKING, Any
+from typing import TYPE_CHECKING, Any, NamedTuple
 
 import pandas as pd
 
 from ..base import kept_json
 from ..base.amounts import THOUSAND
-from ..base.errors import PlanError, meant
+from ..base.errors import PlanError
 from ..base.files import whole_file
+from ..base.near_words import meant
 from ..base.next_command import command
 from ..plans import vary
 from ..plans.task_line import BASE, SCHEDULE, Task
 from ..plans.vary import DISCOUNT, RATES, SINK, WHAT, Change, refuse_other_rate
 from ..study.shells import Shells
 from ..study.study import Study
-from .terms import pushbacks_of
+from .search_ends import Limits
+from .terms import Rate, process_rates_of, pushbacks_of
 
 if TYPE_CHECKING:
     from matplotlib.figure import Figure
@@ -80,6 +82,8 @@ def is_term(value: Any) -> bool:
         or kept_json.is_number(value)
         or kept_json.is_word(value)
         or kept_json.is_list(kept_json.is_number)(value)
+        or isinstance(value, dict)
+        and all(is_term(each) for each in value.values())
     )
 
 
@@ -103,7 +107,7 @@ _ASKED: dict[str, kept_json.Holds] = {
 
 
 def prepare(
-    study: Study, economics: Economics, slopes: Slopes, changes: Sequence[Change], asked: Asked
+    study: Study, economics: Economics, slopes: Slopes, changes: Iterable[Change], asked: Asked
 ) -> None:
     """Builds what the changes need, and writes down what is to be found. No pit is found yet.
 
@@ -111,6 +115,8 @@ def prepare(
     ----------
     economics, slopes
         What the study was built with.
+    changes
+        Each is taken once the model of the one before is built.
 
     Raises
     ------
@@ -178,16 +184,13 @@ def _changed_terms(
         if not 0 <= found["discount"] < 1:
             raise PlanError(f"a discount of {found['discount']:g} isn't from 0 to below 1")
     elif change.kind in RATES and change.kind != "mining_rate" and rates.get("process_rates"):
-        found["process_rates"] = _changed_rates(rates["process_rates"], change)
+        found["process_rates"] = _changed_rates(process_rates_of(values, rates), change)
     elif change.kind in RATES:
         refuse_other_rate(change, ())
         rate = values.get(change.kind) or rates.get(change.kind)
         if rate is None:
             raise PlanError(f"study.toml has no {change.kind}")
-        share = 1 + change.by / PERCENT
-        found[change.kind] = (
-            [each * share for each in rate] if isinstance(rate, list) else rate * share
-        )
+        found[change.kind] = _times(rate, 1 + change.by / PERCENT)
     else:
         sink = values.get(SINK)
         if sink is None or change.by != int(change.by) or sink + change.by < 1:
@@ -201,11 +204,16 @@ def _changed_terms(
     return found
 
 
-def _changed_rates(
-    processes: Mapping[str, float | None], change: Change
-) -> dict[str, float | None]:
-    """The rates of processes with a change. Raises PlanError where none of those that it is of has
-    one."""
+def _times(rate: Rate, share: float) -> Rate:
+    """A rate, or those of the years, times a share."""
+    if rate is None or isinstance(rate, (int, float)):
+        return rate and rate * share
+    return [each * share for each in rate]
+
+
+def _changed_rates(processes: Mapping[str, Rate], change: Change) -> dict[str, Rate]:
+    """The rates with a change of those processes that have one. Raises PlanError where none of those
+    that it is of has one."""
     refuse_other_rate(change, list(processes))
     share = 1 + change.by / PERCENT
     concerned = [name for name in processes if change.of in ("", name)]
@@ -214,10 +222,8 @@ def _changed_rates(
             f"{' and '.join(concerned)} {'has' if len(concerned) == 1 else 'have'} no rate",
             try_this="rate = 8e6 in [[economics.processes]]",
         )
-    return {
-        name: rate * share if rate is not None and name in concerned else rate
-        for name, rate in processes.items()
-    }
+    changed = {name: _times(processes[name], share) for name in concerned}
+    return {name: rate for name, rate in {**processes, **changed}.items() if rate is not None}
 
 
 def study_named(base: Study, name: str) -> Study:
@@ -229,7 +235,7 @@ def study_named(base: Study, name: str) -> Study:
     return Study(vary.place(base, name), base.given)
 
 
-def tasks(study: Study) -> list[Task]:
+def what_if_tasks(study: Study) -> list[Task]:
     """The tasks of the what-ifs that were asked for, the study itself first."""
     asked = asked_of(study)
     names = [BASE, *(change.name for change in asked.each())] if asked else []
@@ -241,12 +247,19 @@ def place(base: Study, name: str) -> Path:
     return base.folder if name == BASE else vary.place(base, name)
 
 
-def ended(base: Study, asked: Asked, name: str) -> tuple[Path, str]:
+class _Ended(NamedTuple):
     """The file that says that a search has ended, and what stands in it then."""
+
+    path: Path
+    digest: str
+
+
+def ended(base: Study, asked: Asked, name: str) -> _Ended:
+    """How the end of a search for the schedule of a what-if is written down."""
     terms = _changed_terms(asked.values, asked.rates, asked.named(name))
     rests_on = [study_named(base, name).key, terms, asked.rates, asked.gap, asked.minutes]
     digest = hashlib.sha256(json.dumps(rests_on, sort_keys=True).encode()).hexdigest()
-    return place(base, name) / "runs" / "schedule" / "ended", digest
+    return _Ended(place(base, name) / "runs" / "schedule" / "ended", digest)
 
 
 def is_done(base: Study, name: str) -> bool:
@@ -278,7 +291,7 @@ def find(base: Study, name: str) -> None:
     asked = must_be_asked(base)
     terms = _changed_terms(asked.values, asked.rates, asked.named(name))
     path, digest = ended(base, asked, name)
-    limits = (asked.gap / PERCENT, asked.minutes * MINUTE)
+    limits = Limits(asked.gap / PERCENT, asked.minutes * MINUTE)
     shells = _shells_of(study_named(base, name), terms)
     Schedule.of(shells, terms, asked.rates, limits, folder=place(base, name))
     with whole_file(path) as part:
@@ -345,33 +358,33 @@ def table(base: Study) -> pd.DataFrame:
     return with_gaps(made)
 
 
-def with_gaps(found: pd.DataFrame) -> pd.DataFrame:
+def with_gaps(table: pd.DataFrame) -> pd.DataFrame:
     """A table of schedules, the planned one first, with ``gaps`` and ``is_apart`` as `table` has
     them.
 
     Parameters
     ----------
-    found : DataFrame
+    table : DataFrame
         With ``npv`` and ``bound`` in units of currency.
     """
-    below = found["bound"] - found["npv"]
+    below = table["bound"] - table["npv"]
     gaps = below + below.iloc[0]
-    is_apart = (found["npv"] - found["npv"].iloc[0]).abs() > gaps
-    return found.assign(gaps=gaps, is_apart=is_apart)
+    is_apart = (table["npv"] - table["npv"].iloc[0]).abs() > gaps
+    return table.assign(gaps=gaps, is_apart=is_apart)
 
 
-def tornado(found: pd.DataFrame, currency: str = "$") -> Figure:
+def tornado(table: pd.DataFrame, currency: str = "$") -> Figure:
     """The tornado chart of `table`: for each thing a bar from its lowest npv to its highest, the
     longest on top, and by a line up to where its bound is."""
     from matplotlib.figure import Figure
 
     from ..base.units_shown import scale_of
 
-    figure = Figure(figsize=(9, 1.9 + 0.6 * found.iloc[1:].what.nunique()), layout="constrained")
+    figure = Figure(figsize=(9, 1.9 + 0.6 * table.iloc[1:].what.nunique()), layout="constrained")
     axes = figure.subplots()
-    money = scale_of(found["npv"], currency)
-    order = vary.draw(axes, found, "npv", currency, "schedule")
-    for row in found.iloc[1:].to_dict("records"):
+    money = scale_of(table["npv"], currency)
+    order = vary.draw(axes, table, "npv", currency, "schedule")
+    for row in table.iloc[1:].to_dict("records"):
         at = order.index(row["what"])
         ends = [row["npv"] / money.divisor, row["bound"] / money.divisor]
         axes.plot(ends, [at - 0.36] * 2, color="#a3341f", marker="|", markersize=7, linewidth=1.2)

@@ -1,17 +1,19 @@
 """The schedule of a mine so small that HiGHS can look through all of them: the program of the
-relaxation, in which no unit may be dug in parts. Nothing here needs to be trusted: `pit schedule` judges
-what is shown, and the bound doesn't come from here."""
+relaxation, in which no unit may be dug in parts. Nothing here needs to be trusted: `pit schedule`
+judges what is shown, and the bound doesn't come from here."""
 from __future__ import annotations
 
+from typing import NamedTuple
+
 import numpy as np
-from scipy.optimize import Bounds, LinearConstraint, milp
 from scipy.sparse import diags
 
-from .partition import GRAINS, Clusters, Program
+from .highs import milp
+from .partition import GRAINS, Clusters, Program, There
 from .production import Production
-from .sending import Timetable
+from .destinations import Timetable
 
-_MOST_SHARES = 600  # of units, and of blocks that may be sent, by periods
+_MOST_SHARES = 600  # of units, and of ways that blocks may be sent, by periods
 _MOST_NODES = 4000  # of the tree, so that its size and not the time ends it
 
 
@@ -21,7 +23,14 @@ def is_small(production: Production) -> bool:
     return rows * production.periods <= _MOST_SHARES
 
 
-def by_whole_units(production: Production, seconds: float) -> tuple[Timetable | None, bool]:
+class _Best(NamedTuple):
+    """The best schedule that was found, or None; and whether none is better."""
+
+    plan: Timetable | None
+    is_all: bool
+
+
+def by_whole_units(production: Production, seconds: float) -> _Best:
     """The best schedule that HiGHS finds of a small mine, None where it finds none that is feasible;
     and whether it has looked through all.
 
@@ -36,23 +45,22 @@ def by_whole_units(production: Production, seconds: float) -> tuple[Timetable | 
     scale = np.ones(len(program.limits))
     scale[: production.capacities.size] = GRAINS / np.maximum(production.capacities.ravel(), 1)
     found = milp(
-        -program.gains,
-        constraints=LinearConstraint(diags(scale) @ program.table, -np.inf, scale * program.limits),
-        bounds=Bounds(0, 1),
-        integrality=np.ones(len(program.gains)),
-        options={
-            "time_limit": max(seconds, 0.0),
-            "node_limit": _MOST_NODES,
-            "mip_rel_gap": 0.0,
-        },
+        program.gains,
+        diags(scale) @ program.table,
+        scale * program.limits,
+        time_limit=max(seconds, 0.0),
+        node_limit=_MOST_NODES,
+        mip_rel_gap=0.0,
     )
-    if found.x is None:
-        return None, False
-    is_so = np.append(np.asarray(found.x)[: cluster.size] > 0.5, False)  # the last one for none
-    dug, sent = is_so[cluster.dug], is_so[cluster.sent]
-    sent[:, 1:] &= ~dug[production.millable.unit, :-1]
+    if found.shares is None:
+        return _Best(None, False)
+    is_so = np.append(found.shares[: cluster.size] > 0.5, False)  # the last one for none
+    dug, up_to = is_so[cluster.dug], is_so[cluster.sent]
+    up_to[:, 1:] &= ~dug[production.millable.unit, :-1]
+    sent, later = up_to.copy(), np.flatnonzero(~production.millable.is_first)
+    sent[later] &= ~up_to[later - 1]
     plan = Timetable(production.periods - dug.sum(axis=1), sent.any(axis=1))
-    return (None, False) if production.wrong(plan) else (plan, found.status == 0)
+    return _Best(None, False) if production.wrong(plan) else _Best(plan, found.status == 0)
 
 
 def _one_for_each(production: Production) -> Clusters:
@@ -62,4 +70,4 @@ def _one_for_each(production: Production) -> Clusters:
     keys = np.arange(rows * production.periods).reshape(rows, -1)
     there = np.arange(production.periods) >= production.earliest[np.append(units, home)][:, None]
     of_dug, of_sent = slice(len(units)), slice(len(units), None)
-    return Clusters.renamed(keys[of_dug], keys[of_sent], (there[of_dug], there[of_sent]))
+    return Clusters.renamed(keys[of_dug], keys[of_sent], There(there[of_dug], there[of_sent]))

@@ -1,11 +1,12 @@
-"""Windows of a schedule: HiGHS schedules some units of two or three neighbouring periods anew, each dug whole,
-while all others stay.
+"""Windows of a schedule: HiGHS schedules some units of two or three neighbouring periods anew, each
+dug whole, while all others stay.
 
-Within a window slopes, sink rate and capacities hold, and where units may be moved at all is known from those
-that stay. So a window that is solved to its end has no better schedule; and whatever HiGHS says, a schedule
-counts where `Production` finds it feasible and worth more. Units are opened that few others go with, and how
-many goes by whether HiGHS came to an end the time before. What ends it is the size of its tree, and the clock
-alone where a window takes long or the time is over: up to there a schedule doesn't depend on the machine.
+Within a window slopes, sink rate and capacities hold, and where units may be moved at all is known
+from those that stay. So a window that is solved to its end has no better schedule; and whatever
+HiGHS says, a schedule counts where `Production` finds it feasible and worth more. Units are opened
+that few others go with, and how many goes by whether HiGHS came to an end the time before. What
+ends it is the size of its tree, and the clock alone where a window takes long or the time is over:
+up to there a schedule doesn't depend on the machine.
 """
 from __future__ import annotations
 
@@ -13,15 +14,16 @@ import time
 from typing import NamedTuple
 
 import numpy as np
-from scipy.optimize import Bounds, LinearConstraint, milp
 from scipy.sparse import coo_matrix, csr_matrix, vstack
 
 from ..base.arrays import Bools, Floats, Ints
-from .loops import Mine, Plan
+from . import highs
+from .highs import milp
+from .unit_moves import Mine, Plan
 from .pairs import Pairs
-from .partition import differences
-from .ranges import Ranges, followers, ranges_of
-from .sending import Timetable
+from .partition import Edges, differences
+from .period_ranges import Freed, Ranges, Span, followers, ranges_of
+from .destinations import Timetable
 from .sorting import Sorting
 from .units import rows_of
 
@@ -30,13 +32,13 @@ _MORE, _LESS = 1.5, 0.5  # times that, where HiGHS ended and found nothing, or w
 _MOST_FOLLOW = 300  # units that go with one that is opened, at most
 _NODES = 100  # of the tree of one window, so that its size and not the time ends it
 _SECONDS = 8.0  # of one window, at most
-_NEAR = 1e-7  # of the schedule's worth, to which a window is solved
-_MOST_GAP = 0.01  # of the window's worth, likewise
+_GAP_OF_SCHEDULE = 1e-7  # of the schedule's worth, to which a window is solved
+_GAP_OF_WINDOW = 0.01  # of the window's worth, likewise
 
 
 class _Shares(NamedTuple):
-    """The shares of a window, each of an open unit and a period by whose end it is dug: those from its first
-    period to the one before its last, by whose end it is dug anyway.
+    """The shares of a window, each of an open unit and a period by whose end it is dug: those from
+    its first period to the one before its last, by whose end it is dug anyway.
 
     Attributes
     ----------
@@ -60,8 +62,16 @@ class _Shares(NamedTuple):
         return cls(unit, np.arange(len(unit)) - start[unit], start)
 
 
+class _Solved(NamedTuple):
+    """What HiGHS found of a window: shares of 0 and 1, or None; and whether it came to its end."""
+
+    shares: Ints | None
+    is_ended: bool
+
+
 class _Window(NamedTuple):
-    """A window as a program: of shares from 0 to 1, which gives most where no row of a table exceeds its limit.
+    """A window as a program: of shares from 0 to 1, which gives most where no row of a table
+    exceeds its limit.
 
     Attributes
     ----------
@@ -82,23 +92,20 @@ class _Window(NamedTuple):
     limits: Floats
     now: Floats
 
-    def whole(self, seconds: float, near: float) -> tuple[Ints | None, bool]:
-        """The best shares that HiGHS finds of units that are dug whole, as 0 and 1, None where it finds none; and
-        whether nothing is better by more than an amount."""
+    def whole(self, seconds: float, near: float) -> _Solved:
+        """The best shares that HiGHS finds of units that are dug whole, as 0 and 1, None where it
+        finds none; and whether nothing is better by more than an amount."""
         now = abs(float(self.gains @ self.now))
         found = milp(
-            -self.gains / self.unit_of_gain,
-            constraints=LinearConstraint(self.table, -np.inf, self.limits),
-            bounds=Bounds(0, 1),
-            integrality=np.ones(len(self.gains)),
-            options={
-                "time_limit": max(seconds, 0.0),
-                "node_limit": _NODES,
-                "mip_rel_gap": min(near / max(now, near, 1.0), _MOST_GAP),
-            },
+            self.gains / self.unit_of_gain,
+            self.table,
+            self.limits,
+            time_limit=max(seconds, 0.0),
+            node_limit=_NODES,
+            mip_rel_gap=min(near / max(now, near, 1.0), _GAP_OF_WINDOW),
         )
-        shares = None if found.x is None else (np.asarray(found.x) > 0.5).astype(np.int64)
-        return shares, found.status == 0
+        shares = None if found.shares is None else (found.shares > 0.5).astype(np.int64)
+        return _Solved(shares, found.status == 0)
 
     @property
     def unit_of_gain(self) -> float:
@@ -136,7 +143,7 @@ def _window_of(mine: Mine, weights: Ints, plan: Plan, ranges: Ranges) -> _Window
     ):
         ordered.append(_resting(pairs, lag, shares, ranges))
     low, high = (np.concatenate(each).astype(np.int64) for each in zip(*ordered))
-    order = differences((low, high), len(unit))
+    order = differences(Edges(low, high), len(unit))
     rows, rooms = [], []
     for uses, left in zip(mine.uses, plan.left):
         grain = max(float(uses[unit].max()), 1.0)
@@ -156,14 +163,14 @@ def _window_of(mine: Mine, weights: Ints, plan: Plan, ranges: Ranges) -> _Window
     )
 
 
-def _before(shares: _Shares, ranges: Ranges) -> tuple[Ints, Ints]:
-    """Pairs of shares of which the first is no more than the second: of a unit and two periods that follow each
-    other."""
+def _before(shares: _Shares, ranges: Ranges) -> Edges:
+    """Pairs of shares of which the first is no more than the second: of a unit and two periods that
+    follow each other."""
     found = np.flatnonzero(shares.period + 1 < ranges.high[shares.unit])
-    return found, found + 1
+    return Edges(found, found + 1)
 
 
-def _resting(pairs: Pairs, lag: int, shares: _Shares, ranges: Ranges) -> tuple[Ints, Ints]:
+def _resting(pairs: Pairs, lag: int, shares: _Shares, ranges: Ranges) -> Edges:
     """Likewise of a unit and one that it rests on, so many periods before."""
     low, high = [np.zeros(0, np.int64)], [np.zeros(0, np.int64)]
     units, others = rows_of(pairs, np.flatnonzero(ranges.is_open))
@@ -172,16 +179,15 @@ def _resting(pairs: Pairs, lag: int, shares: _Shares, ranges: Ranges) -> tuple[I
         is_there &= t - lag < ranges.high[others]  # dug by then anyway where it isn't
         low.append(shares.start[units[is_there]] + t)
         high.append(shares.start[others[is_there]] + t - lag)
-    return np.concatenate(low), np.concatenate(high)
+    return Edges(np.concatenate(low), np.concatenate(high))
 
 
-class _Asked(NamedTuple):
-    """What is asked of a window.
+class _Opening(NamedTuple):
+    """Which periods are opened, and how they are solved.
 
     Attributes
     ----------
-    window : two ints
-        Its first and its last period; the number of periods for what stays.
+    window : Span
     sent : bool array
         Which blocks are sent.
     near : float
@@ -189,7 +195,7 @@ class _Asked(NamedTuple):
     seed : int
     """
 
-    window: tuple[int, int]
+    window: Span
     sent: Bools
     near: float
     seed: int
@@ -213,12 +219,13 @@ class Windows:
 
     def __init__(self, sorting: Sorting) -> None:
         self.sorting = sorting
-        self.sizes: dict[tuple[int, int], float] = {}
-        self.done: dict[tuple[int, int], int] = {}
+        self.sizes: dict[Span, float] = {}
+        self.done: dict[Span, int] = {}
 
     def bettered(self, plan: Timetable, width: int, seed: int) -> Timetable:
-        """A schedule after a pass over all windows of so many periods, of which the last one may be what stays in
-        the ground. Slopes, sink rate, capacities, panels and pushbacks are kept; where blocks go stays until the end.
+        """A schedule after a pass over all windows of so many periods, of which the last one may be
+        what stays in the ground. Slopes, sink rate, capacities, panels and pushbacks are kept;
+        where blocks go stays until the end.
 
         Parameters
         ----------
@@ -229,65 +236,70 @@ class Windows:
         """
         sorting = self.sorting
         mine, more = sorting.mine_of(plan.sent), sorting.loose(plan)
-        near = _NEAR * abs(sorting.production.npv(plan))
+        near = _GAP_OF_SCHEDULE * abs(sorting.production.npv(plan))
 
         def better(s: int) -> None:
             if not sorting.is_late:
-                asked = _Asked((s, s + width - 1), plan.sent, near, seed)
-                self.better_one(mine, more, asked)
+                opening = _Opening(Span(s, s + width - 1), plan.sent, near, seed)
+                self.better_one(mine, more, opening)
 
+        highs.begin(sorting.threads)
         for first in range(width):
             sorting.at_once(better, range(first, sorting.production.periods + 2 - width, width))
-        return sorting.moved(sorting.sent_in(more.period))
+        return sorting.moved(sorting.resent(Timetable(more.period, plan.sent)))
 
-    def better_one(self, mine: Mine, plan: Plan, asked: _Asked) -> None:
+    def better_one(self, mine: Mine, plan: Plan, opening: _Opening) -> None:
         """Makes one window better, where HiGHS finds how."""
-        begin, end = asked.window
+        begin, end = opening.window
         inside = np.flatnonzero((plan.period >= begin) & (plan.period <= end))
-        state = hash(b"".join(each.tobytes() for each in (inside, plan.period[inside], asked.sent)))
-        if self.done.get(asked.window) == state:
+        state = hash(
+            b"".join(each.tobytes() for each in (inside, plan.period[inside], opening.sent))
+        )
+        if self.done.get(opening.window) == state:
             return
-        size = self.sizes.get(asked.window, float(_FIRST))
-        units = self.opened(mine, plan, asked, (inside, int(size)))
-        ranges = ranges_of(mine, plan.period, self.sorting.order, (units, begin, end))
+        size = self.sizes.get(opening.window, float(_FIRST))
+        units = self.units_to_open(mine, plan, opening, inside, int(size))
+        ranges = ranges_of(mine, plan.period, self.sorting.order, Freed(units, opening.window))
         is_ended, is_better = True, False
         if ranges.is_open.any():
             window = _window_of(mine, self.sorting.production.weights, plan, ranges)
-            shares, is_ended = window.whole(self.seconds, asked.near)
-            is_better = shares is not None and self.take(plan, window, shares, asked)
+            shares, is_ended = window.whole(self.seconds, opening.near)
+            is_better = shares is not None and self.take(plan, window, shares, opening)
         if not is_ended:
             size *= _LESS
         elif not is_better:
             size *= _MORE
             if len(units) == len(inside):
-                self.done[asked.window] = state
-        self.sizes[asked.window] = min(max(size, _FEWEST), _MOST)
+                self.done[opening.window] = state
+        self.sizes[opening.window] = min(max(size, _FEWEST), _MOST)
 
     @property
     def seconds(self) -> float:
         """What a window may take."""
         return min(_SECONDS, self.sorting.ends - time.monotonic())
 
-    def opened(self, mine: Mine, plan: Plan, asked: _Asked, begun: tuple[Ints, int]) -> Ints:
-        """The units that are opened of those in a window, about so many: that few others go with, and at random
-        some that more do."""
-        inside, size = begun
+    def units_to_open(
+        self, mine: Mine, plan: Plan, opening: _Opening, inside: Ints, size: int
+    ) -> Ints:
+        """The units that are opened of those in a window, about so many: that few others go with,
+        and at random some that more do."""
         if len(inside) <= size:
             return inside
-        random = np.random.default_rng([asked.seed, *asked.window])
-        count = followers(mine, plan.period, asked.window, _MOST_FOLLOW)[inside]
+        random = np.random.default_rng([opening.seed, *opening.window])
+        count = followers(mine, plan.period, opening.window, _MOST_FOLLOW)[inside]
         order = np.argsort(count * (1 + random.random(len(inside))), kind="stable")
         return np.sort(inside[order[:size]])
 
-    def take(self, plan: Plan, window: _Window, shares: Ints, asked: _Asked) -> bool:
-        """Takes what was found of a window into the schedule, where that is feasible then and worth more."""
+    def take(self, plan: Plan, window: _Window, shares: Ints, opening: _Opening) -> bool:
+        """Takes what was found of a window into the schedule, where that is feasible then and worth
+        more."""
         made, before = self.sorting.production, plan.period.copy()
         after = window.periods(shares, before)
-        one, other = Timetable(before, asked.sent), Timetable(after, asked.sent)
+        one, other = Timetable(before, opening.sent), Timetable(after, opening.sent)
         if made.wrong(other) or made.npv(other) <= made.npv(one):
             return False
         moved = np.flatnonzero(after != before)
         plan.period[moved] = after[moved]
-        here = slice(asked.window[0], asked.window[1] + 1)
+        here = slice(opening.window.begin, opening.window.end + 1)
         plan.left[:, here] = (made.capacities - made.used(other))[:, here]
         return True

@@ -2,7 +2,6 @@
 either."""
 from __future__ import annotations
 
-from dataclasses import replace
 from functools import cached_property
 from typing import TYPE_CHECKING
 
@@ -25,30 +24,25 @@ class YearEnds(Shells):
         Years from 1, up to the last in which something is dug.
     shell : int array of shape (blocks,)
         As of `Shells`, by years.
-    wasted : bool array of shape (blocks,)
-        The blocks that are dug and go to waste.
+    goes : int array of shape (blocks,)
+        Which way each block goes that is dug, as of `Schedule`; of others the way by which they are
+        worth most.
     """
 
-    def __init__(self, found: Schedule) -> None:
-        count = int(found.period.max()) + 1
-        self.called = self.by = "period" if found.production.terms.per_year > 1 else "year"
-        self.study, self.factors = found.shells.study, list(range(1, count + 1))
-        self.wasted = (found.period >= 0) & ~found.sent
-        self.shell = np.where(found.period >= 0, found.period, count).astype(np.int16)
+    def __init__(self, schedule: Schedule) -> None:
+        count = int(schedule.period.max()) + 1
+        self.called = self.by = "period" if schedule.production.terms.per_year > 1 else "year"
+        self.study, self.factors = schedule.shells.study, list(range(1, count + 1))
+        self.goes = np.where(
+            schedule.period >= 0, schedule.goes, self.study.priced.way_of(THOUSAND)
+        )
+        self.shell = np.where(schedule.period >= 0, schedule.period, count).astype(np.int16)
         self.verdicts = []
 
     @cached_property
     def priced(self) -> Priced:
         """What each block is worth where it goes as the schedule sends it."""
-        ways = tuple(
-            replace(
-                way,
-                revenue=np.where(self.wasted, 0, way.revenue),
-                processing=np.where(self.wasted, 0, way.processing),
-            )
-            for way in self.study.priced.ways
-        )
-        return replace(self.study.priced, ways=ways)
+        return self.study.priced.sent_by(self.goes)
 
     def mark(self, i: int) -> int:
         """The year."""

@@ -1,9 +1,9 @@
-"""From slope angles to offsets, and to the settings that list them."""
+"""From slope angles and ramps to offsets, to the settings that list them; air above steep ground."""
 from __future__ import annotations
 
 from typing import TYPE_CHECKING
 
-from ..base.door import door
+from ..base.public_names import door
 
 if TYPE_CHECKING:
     from .slopes import Slopes as Slopes

@@ -61,7 +61,7 @@ NARROWEST, _WIDEST = (
     1.6,
 )
 # where a wall comes this many blocks out, a cone of that stretch has a block on each side of it
-_NEAR = 3
+_BLOCKS_OUT = 3
 
 
 class SlopeError(ValueError):
@@ -120,17 +120,17 @@ class TooSteep(SlopeError):
     advice = "lower or wider blocks, or steeper slopes: each needs fewer offsets"
 
     def __init__(self, nearest: Pattern) -> None:
-        bearing, asked = nearest.steepest_at(), nearest.wall
+        bearing, wall = nearest.steepest_at(), nearest.wall
         self.nearest = nearest
         self.what = (
             "a wall that is nowhere steeper than asked can't be built in blocks of %s with the"
             " offsets that pit takes: the nearest is %.1f degrees at bearing %.0f, where %.1f are"
             " asked for"
             % (
-                " x ".join("%g" % side for side in asked.size),
+                " x ".join("%g" % side for side in wall.size),
                 nearest.built(bearing),
                 bearing,
-                asked.slope(bearing),
+                wall.slope(bearing),
             )
         )
         super().__init__("%s; take %s" % (self.what, self.advice))
@@ -351,15 +351,15 @@ class Outline:
         The corners as offsets, each of one and the same level.
     """
 
-    def __init__(self, asked: Wall, offsets: Sequence[Offset]) -> None:
+    def __init__(self, wall: Wall, offsets: Sequence[Offset]) -> None:
         """The hull is found in whole numbers: each offset over its level, times the common multiple
         of the levels."""
         common = math.lcm(*(k for _, _, k in offsets))
         points = sorted({(i * (common // k), j * (common // k)) for i, j, k in offsets})
-        x, y, z = asked.size
+        x, y, z = wall.size
         hull = (_chain(points)[:-1] + _chain(points[::-1])[:-1])[::-1]
         self.at = [(i, j, common) for i, j in hull]
-        turn = math.radians(asked.rotation)
+        turn = math.radians(wall.rotation)
         sin, cos = math.sin(turn), math.cos(turn)
         flat = [(i / common * x / z, j / common * y / z) for i, j in hull]
         corners = [(u * cos + v * sin, v * cos - u * sin) for u, v in flat]
@@ -426,15 +426,15 @@ def _cross(p: tuple[float, float], q: tuple[float, float]) -> float:
     return p[0] * q[1] - p[1] * q[0]
 
 
-def error_of(asked: Wall, outline: Outline, is_safe: bool = False) -> Error:
+def error_of(wall: Wall, outline: Outline, is_safe: bool = False) -> Error:
     """By how much a wall errs.
 
     The means are those of 360 bearings. The extremes are looked for at these, at the outline's
     bends, and where the slope that is asked for bends; with `is_safe` also between these, so that
     `steepest` is the greatest error of all.
     """
-    off = [outline.slope(bearing) - slope for bearing, slope in enumerate(_by_degree(asked))]
-    steepest, flattest = _extremes(asked, outline, is_safe)
+    off = [outline.slope(bearing) - slope for bearing, slope in enumerate(_by_degree(wall))]
+    steepest, flattest = _extremes(wall, outline, is_safe)
     return Error(
         sum(abs(each) for each in off) / 360,
         sum(off) / 360,
@@ -444,33 +444,33 @@ def error_of(asked: Wall, outline: Outline, is_safe: bool = False) -> Error:
 
 
 @functools.lru_cache(maxsize=16)
-def _by_degree(asked: Wall) -> list[float]:
-    return [asked.slope(bearing) for bearing in range(360)]
+def _by_degree(wall: Wall) -> list[float]:
+    return [wall.slope(bearing) for bearing in range(360)]
 
 
-def _steep(asked: Wall, outline: Outline, is_safe: bool) -> Iterator[float]:
+def _steep(wall: Wall, outline: Outline, is_safe: bool) -> Iterator[float]:
     """The bearings at which a wall may be steepest beside what is asked; with `is_safe` all of
     them."""
     yield from outline.nearest()
-    yield from (bearing for bearing, _ in asked.slopes)
-    for lean in asked.leans if is_safe else ():
+    yield from (bearing for bearing, _ in wall.slopes)
+    for lean in wall.leans if is_safe else ():
         if lean:
             yield from outline.steepest_beside(lean)
 
 
 def _extremes(
-    asked: Wall, outline: Outline, is_safe: bool, flat: float = math.inf, steep: float = math.inf
+    wall: Wall, outline: Outline, is_safe: bool, flat: float = math.inf, steep: float = math.inf
 ) -> tuple[float, float]:
     """The greatest and the least error; the looking ends at the first that is flatter or steeper by
     more than these."""
     flattest = math.inf
     for bearing, slope in outline.corner_slopes():
-        flattest = min(flattest, slope - asked.slope(bearing))
+        flattest = min(flattest, slope - wall.slope(bearing))
         if flattest < -flat:
             return -math.inf, flattest
     steepest = -math.inf
-    for bearing in _steep(asked, outline, is_safe):
-        off = outline.slope(bearing) - asked.slope(bearing)
+    for bearing in _steep(wall, outline, is_safe):
+        off = outline.slope(bearing) - wall.slope(bearing)
         steepest, flattest = max(steepest, off), min(flattest, off)
         if off > steep or off < -flat:
             break
@@ -484,15 +484,15 @@ class _Cones:
     is shifted, joined and compared in one operation.
     """
 
-    def __init__(self, asked: Wall, levels: int, widest: float = _WIDEST) -> None:
-        flattest = min(slope for _, slope in asked.slopes)
-        reach = widest * levels * asked.size[2] / math.tan(math.radians(flattest))
-        across, along = int(reach / asked.size[0]) + 1, int(reach / asked.size[1]) + 1
+    def __init__(self, wall: Wall, levels: int, widest: float = _WIDEST) -> None:
+        flattest = min(slope for _, slope in wall.slopes)
+        reach = widest * levels * wall.size[2] / math.tan(math.radians(flattest))
+        across, along = int(reach / wall.size[0]) + 1, int(reach / wall.size[1]) + 1
         self.levels, self.widest, self.across, self.wide = levels, widest, across, 2 * across + 1
         self.origin = 1 << (along * self.wide + across)
         self.along = along
         found = sorted(
-            (asked.stretch(i, j), i, j)
+            (wall.stretch(i, j), i, j)
             for i in range(-across, across + 1)
             for j in range(-along, along + 1)
         )
@@ -559,14 +559,14 @@ def within(blocks: int) -> _Fits:
 
 
 def search(
-    asked: Wall, *, safe: bool = False, levels: int | None = None, fits: _Fits = within(0)
+    wall: Wall, *, safe: bool = False, levels: int | None = None, fits: _Fits = within(0)
 ) -> Pattern:
     """The fewest offsets that hold a wall.
 
     Parameters
     ----------
-    asked
-        The wall.
+    wall
+        Its blocks and its angles.
     safe
         Whether it may be steeper than asked nowhere, at whatever bearing. Otherwise it errs to both
         sides, or not at all.
@@ -593,8 +593,8 @@ def search(
     """
     if levels is not None and not 1 <= levels <= _MOST_LEVELS:
         raise SlopeError("levels are from 1 to %d; there is %d" % (_MOST_LEVELS, levels))
-    steepest = max(slope for _, slope in asked.slopes)
-    out = asked.size[2] / math.tan(math.radians(steepest)) / max(asked.size[:2])
+    steepest = max(slope for _, slope in wall.slopes)
+    out = wall.size[2] / math.tan(math.radians(steepest)) / max(wall.size[:2])
     tried: list[Pattern] = []
     before = 0
     for blocks_out, most in _TRIES:
@@ -602,8 +602,8 @@ def search(
         if high == before:
             break
         before = high
-        cones = _Cones(asked, high)
-        judged = functools.partial(_best, cones, asked, safe, fits)
+        cones = _Cones(wall, high)
+        judged = functools.partial(_best, cones, wall, safe, fits)
         found = judged(cones.cuts(NARROWEST, most)) or judged(cones.cuts(0.0, most))
         if found is None:
             raise SlopeError(
@@ -614,7 +614,7 @@ def search(
             break
     best = tried[-1] if _is_better(tried[-1], tried[0], safe) else tried[0]
     if safe and best.error.is_too_steep:
-        flatter = _flatter(asked, min(before, _levels_of(_NEAR, out)), fits)
+        flatter = _flatter(wall, min(before, _levels_of(_BLOCKS_OUT, out)), fits)
         if flatter is None:
             raise TooSteep(best)
         return flatter
@@ -626,13 +626,13 @@ def _levels_of(blocks: float, out: float) -> int:
     return math.ceil(blocks / out * (1 - _SAME))
 
 
-def _flatter(asked: Wall, levels: int, fits: _Fits) -> Pattern | None:
+def _flatter(wall: Wall, levels: int, fits: _Fits) -> Pattern | None:
     """The best safe pattern of cones that are stretched more than others need; None where one level
     has too many offsets before that."""
     narrow = _WIDEST
-    while (first := next(_Cones(asked, 1, narrow).needed(narrow), None)) and fits(first):
-        cones = _Cones(asked, levels, 2 * narrow)
-        found = _best(cones, asked, True, fits, [*cones.cuts(narrow, _TRIES[0][1]), cones.widest])
+    while (first := next(_Cones(wall, 1, narrow).needed(narrow), None)) and fits(first):
+        cones = _Cones(wall, levels, 2 * narrow)
+        found = _best(cones, wall, True, fits, [*cones.cuts(narrow, _TRIES[0][1]), cones.widest])
         if found and not found.error.is_too_steep:
             return found
         narrow = cones.widest
@@ -640,7 +640,7 @@ def _flatter(asked: Wall, levels: int, fits: _Fits) -> Pattern | None:
 
 
 def _best(
-    cones: _Cones, asked: Wall, safe: bool, fits: _Fits, stretches: Sequence[float]
+    cones: _Cones, wall: Wall, safe: bool, fits: _Fits, stretches: Sequence[float]
 ) -> Pattern | None:
     """The best pattern of cones that are stretched, of any number of levels; None where none
     fits."""
@@ -653,42 +653,35 @@ def _best(
         for offsets in cones.needed(stretch):
             if best and best.is_held and len(offsets) > len(best.offsets) or not fits(offsets):
                 break
-            outline = Outline(asked, corners + offsets[count:])
+            outline = Outline(wall, corners + offsets[count:])
             corners, count = outline.at or list(offsets), len(offsets)
             if outline.corners not in seen:  # None: the extremes alone are worse than the best
                 flat = least * WORST
                 steepest, flattest = _extremes(
-                    asked, outline, safe, flat, max(_EVEN, least / _TOO_STEEP - 1) if safe else flat
+                    wall, outline, safe, flat, max(_EVEN, least / _TOO_STEEP - 1) if safe else flat
                 )
                 if -flattest > flat:  # further levels make the wall flatter still
                     break
                 bound = Error(0, 0, steepest, flattest).bound(safe)
-                seen[outline.corners] = error_of(asked, outline, safe) if bound <= least else None
+                seen[outline.corners] = error_of(wall, outline, safe) if bound <= least else None
             error = seen[outline.corners]
             if error is None:
                 continue
             found = Pattern(
-                asked, tuple(offsets), offsets[-1][2], error, error.badness(safe) <= 1 + _SAME
+                wall, tuple(offsets), offsets[-1][2], error, error.badness(safe) <= 1 + _SAME
             )
             if best is None or _is_better(found, best, safe):
                 best, least = found, max(1.0, error.badness(safe)) * (1 + _SAME)
     return best
 
 
-def _is_better(found: Pattern, best: Pattern, safe: bool) -> bool:
+def _is_better(pattern: Pattern, best: Pattern, safe: bool) -> bool:
     """Whether a pattern is better than the best of those before it; of equals the first stays."""
-    if found.is_held != best.is_held:
-        return found.is_held
-    if found.is_held and len(found.offsets) != len(best.offsets):
-        return len(found.offsets) < len(best.offsets)
-    return found.error.badness(safe) < best.error.badness(safe) * (1 - _SAME)
-
-
-def settings(pattern: Pattern) -> str:
-    """The offsets as settings of `pit slopes --pattern settings`."""
-    return "offsets = [\n%s]\n" % "".join(
-        "    [%d, %d, %d],\n" % offset for offset in pattern.offsets
-    )
+    if pattern.is_held != best.is_held:
+        return pattern.is_held
+    if pattern.is_held and len(pattern.offsets) != len(best.offsets):
+        return len(pattern.offsets) < len(best.offsets)
+    return pattern.error.badness(safe) < best.error.badness(safe) * (1 - _SAME)
 
 
 def settings_by_region(patterns: Mapping[str, Pattern]) -> str:

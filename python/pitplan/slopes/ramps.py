@@ -83,8 +83,12 @@ class Ramp:
             else f", as a turn of {length_text(self.around)} {unit} rises by {length_text(self.grade * self.around)}"
         )
         return (
-            f"{asked} degrees between ramps make {made} overall: over {length_text(self.height)} {unit} a wall is {', '.join(plan)} {unit} wide in plan, "
-            f"and {self.passes:.3g} {'pass' if self.passes == 1 else 'passes'} of a ramp of {length_text(self.width)} {unit} {'adds' if self.passes == 1 else 'add'} {self.passes * self.width:,.1f}{of_turn}; "
+            f"{asked} degrees between ramps make {made} overall: over"
+            f" {length_text(self.height)} {unit} a wall is {', '.join(plan)} {unit} wide in"
+            " plan, "
+            f"and {self.passes:.3g} {'pass' if self.passes == 1 else 'passes'} of a ramp of"
+            f" {length_text(self.width)} {unit} {'adds' if self.passes == 1 else 'add'}"
+            f" {self.passes * self.width:,.1f}{of_turn}; "
             f"at a grade of {self.grade:.4g} the ramp is {self.height / self.grade:,.0f} {unit} long"
         )
 
@@ -104,7 +108,10 @@ def ramp_of(value: Mapping[str, Any] | None, region: str) -> Ramp | None:
     key: KeyPath = ("slopes", "ramp") if own is value else ("slopes", "ramp", region)
     if own["grade"] > _STEEPEST_GRADE:
         raise PlanError(
-            f"[slopes] {', '.join(map(str, key[1:]))}: a grade of {own['grade']:g} rises {own['grade']:g} m in each metre",
+            (
+                f"[slopes] {', '.join(map(str, key[1:]))}: a grade of {own['grade']:g} rises"
+                f" {own['grade']:g} m in each metre"
+            ),
             try_this=f"grade = {own['grade'] / 100:g}",
             key=(*key, "grade"),
         ).with_remedy(Remedy((*key, "grade"), own["grade"] / 100))

@@ -5,27 +5,17 @@ list the offsets of each region, and the `.blocks` file has a column with that o
 """
 from __future__ import annotations
 
-import functools
 from collections.abc import Iterable, Mapping
-from dataclasses import dataclass, field
+from dataclasses import dataclass
 from typing import Any, cast
 
 import numpy as np
 import pandas as pd
 
 from ..base.arrays import Array, Bools, Ints
-from ..base.errors import (
-    Gathered,
-    KeyPath,
-    PlanError,
-    Remedy,
-    about,
-    meant,
-    near_to,
-    spelled,
-    swap_of,
-)
+from ..base.errors import Gathered, KeyPath, PlanError, Remedy, about, toml_spelled
 from ..base.events import event
+from ..base.near_words import meant, near_to, swap_of
 from ..model.grid import Grid
 from ..model.model import Model
 from ..model.subblocks import coded
@@ -34,7 +24,7 @@ from ..table.study_keys import keys_of
 from ..table.value_kinds import has_ramp
 from ..table.wrong_values import refuse_wrong
 from . import offsets
-from .listed import offsets_listed, slopes_text
+from .slope_settings import offsets_listed, slopes_text
 from .offsets import Angles, Offset, Outline, Pattern
 from .ramps import ramp_of
 
@@ -42,6 +32,8 @@ DEFAULT = "default"
 _MOST_REGIONS = 64  # that `pit` takes
 _OF_PLACES = ("elevation", "below_ground")  # what a formula of regions may name beside columns
 _OFF = 1e-3  # of a block's height: that much less or more makes no other elevation, nor depth
+_MOST_FOUND = 1024  # walls that are kept, far more than a study has
+_FOUND: dict[tuple[offsets.Wall, bool, int | None], Pattern] = {}
 _STEP = 15  # degrees of bearing between two rows of the table of asked and built angles
 
 
@@ -85,9 +77,6 @@ class Slopes:
     safe: bool = False
     levels: int | None = None
     ramp: Mapping[str, Any] | None = None
-    _found: dict[tuple[Any, ...], dict[str, Pattern]] = field(
-        default_factory=dict, init=False, repr=False, compare=False
-    )
 
     def __post_init__(self) -> None:
         refuse_wrong(
@@ -162,19 +151,16 @@ class Slopes:
             ) from None
 
     def patterns(self, grid: Grid) -> dict[str, Pattern]:
-        """The offsets of each region and the wall that they make, "default" first; searched once
-        for a size and rotation.
+        """The offsets of each region and the wall that they make, "default" first; a wall that was
+        asked for before, as by what-ifs over the same slopes, isn't searched again.
 
         Raises
         ------
         PlanError
             Where with `safe` a region's wall would be steeper than asked.
         """
-        key = (grid.size, grid.rotation, self.safe, self.levels)
-        if key not in self._found:
-            walls = {name: self.wall(name, grid.size, grid.rotation) for name in self.names}
-            self._found[key] = {name: self._pattern_of(name, wall) for name, wall in walls.items()}
-        return self._found[key]
+        walls = {name: self.wall(name, grid.size, grid.rotation) for name in self.names}
+        return {name: self._pattern_of_region(name, wall) for name, wall in walls.items()}
 
     def lines(self, region: str, grid: Grid, unit: str) -> list[str]:
         """What a region's walls are built of, lengths in a unit; before it, where ramps pass them,
@@ -183,11 +169,15 @@ class Slopes:
         said = [ramp.spelled(self.angles_of(region), unit)] if ramp else []
         return [f"{region}: {line}" for line in (*said, str(pattern))]
 
-    def _pattern_of(self, region: str, wall: offsets.Wall) -> Pattern:
+    def _pattern_of_region(self, region: str, wall: offsets.Wall) -> Pattern:
+        """The offsets of a region; that they are looked for is said only where they are."""
+        asked = (wall, self.safe, self.levels)
+        if asked in _FOUND:
+            return _FOUND[asked]
         at = f", {self.names.index(region) + 1} of {len(self.names)}" if self.regions else ""
         event("step", what=f"looking for the offsets of {region}{at}")
         try:
-            return pattern_of(wall, self.safe, self.levels)
+            return kept_search(*asked)
         except offsets.TooSteep as error:
             raise PlanError(
                 f"[slopes] {_angles_key(region)}, safe = true: {error.what}",
@@ -281,7 +271,7 @@ class Slopes:
             PlanError(
                 f"[slopes] no block has {self.by} = {name}{meant(name, sorted(texts))}",
                 try_this=(
-                    f"{spelled({near: angles})[2:-2]} in regions of [slopes]"
+                    f"{toml_spelled({near: angles})[2:-2]} in regions of [slopes]"
                     if (near := near_to(name, sorted(texts))) and near not in self.regions
                     else None
                 ),
@@ -357,11 +347,12 @@ def _key_of(region: str) -> KeyPath:
     return ("slopes", "angles") if region == DEFAULT else ("slopes", "regions", region)
 
 
-@functools.lru_cache(maxsize=64)
-def pattern_of(wall: offsets.Wall, safe: bool, levels: int | None) -> Pattern:
-    """As `offsets.search`; a wall that was asked for before, as by what-ifs over the same slopes,
-    isn't searched again."""
-    return offsets.search(wall, safe=safe, levels=levels)
+def kept_search(wall: offsets.Wall, safe: bool, levels: int | None) -> Pattern:
+    """As `offsets.search`, kept for all slopes of this process."""
+    if len(_FOUND) >= _MOST_FOUND:
+        _FOUND.clear()
+    _FOUND[wall, safe, levels] = offsets.search(wall, safe=safe, levels=levels)
+    return _FOUND[wall, safe, levels]
 
 
 def walls_of(built: pd.DataFrame, every: int) -> tuple[list[str], list[tuple[str, ...]]]:

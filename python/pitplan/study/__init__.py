@@ -1,9 +1,10 @@
-"""A study's folder: its files, its verdicts, its pits and their tables."""
+"""A study's folder: study.toml, its files for `pit`, its lock, its verdicts, its pits and their
+tables, and what looks wrong of it."""
 from __future__ import annotations
 
 from typing import TYPE_CHECKING
 
-from ..base.door import door
+from ..base.public_names import door
 
 if TYPE_CHECKING:
     from .pit_by_pit import Rates as Rates

@@ -21,11 +21,11 @@ from ..model.economics import Economics
 from ..model.model import Model
 from ..model.subblocks import coded
 from ..pit.program import Pit
-from ..slopes.listed import offsets_listed
+from ..slopes.slope_settings import offsets_listed
 from ..slopes.slopes import Slopes
 from ..slopes.steep_ground import with_air
 from .folder import READ
-from .pairs import counted_pairs
+from .pair_counts import counted_pairs
 
 _WAY = ("revenue", "processing")  # the columns of each way to treat a block
 _AFTER = ("mining", "tonnes")  # those after them

@@ -16,9 +16,9 @@ from ..base.study_lines import value_at
 from ..base.within import refuse_outside
 from ..model.model import Model, TableKeys, read_with, rows_alone
 from ..model.subblocks import coded
-from ..model.tonnage import by_rock
+from ..model.grade_tonnage import by_rock
 from .first_look import look_at
-from .looks import looks
+from .strange_inputs import looks
 from .study_file import Parts, parts_of_file, path_of, table_found
 
 if TYPE_CHECKING:
@@ -56,7 +56,8 @@ class Checked:
 
     @property
     def tonnage(self) -> pd.DataFrame | None:
-        """What lies in the ground at the prices as they stand, by rock; None where that can't be told."""
+        """What lies in the ground at the prices as they stand, by rock; None where that can't be
+        told."""
         if self.model is None or self.priced is None or not (self.parts and self.parts.economics):
             return None
         metals = self.parts.economics.metals

@@ -31,7 +31,7 @@ from ..table.csv_text import (
     read_frame,
 )
 from ..table.formula import text_of
-from ..table.parts_of_blocks import is_part, remedy_of_part
+from ..table.share_columns import is_part, remedy_of_part
 from .study_template import aligned, metal, template
 
 _UTF_8 = Dialect().encoding
@@ -285,7 +285,10 @@ def _is_grade(frame: pd.DataFrame, name: str, look: _Look) -> bool:
         is_one = _share_of_numbers(frame[name]) > _MOSTLY
         if is_one:
             look.notes.append(
-                f'column {name}, row {0 if error.row is None else error.row + 2}: {error.what}; if that stands for "not estimated", put it into absent'
+                (
+                    f"column {name}, row {0 if error.row is None else error.row + 2}:"
+                    f' {error.what}; if that stands for "not estimated", put it into absent'
+                )
             )
         return is_one
     # kriging leaves a few below 0: `build` names their row
@@ -387,9 +390,9 @@ def _find_grid(look: _Look, frame: pd.DataFrame, x: Floats, y: Floats, z: Floats
     height = _least_step(z)
     if across is None or along is None or height is None:
         look.notes.append(
-            "the grid couldn't be told: one level, row or column alone"
+            "the grid couldn't be found: one level, row or column alone"
             if look.size
-            else "the size of a block couldn't be told: one level, row or column alone"
+            else "the size of a block couldn't be found: one level, row or column alone"
         )
         return
     look.rotation = _turned(x, y, across, along)
@@ -471,7 +474,7 @@ def written(look: _Look, table: str) -> str:
             table=_quoted(table),
             columns=", ".join(f"{name} = {_quoted(column)}" for name, column in look.names.items()),
             size=size,
-            size_note="" if look.size else "; it couldn't be told: fill it in",
+            size_note="" if look.size else "; it couldn't be found: fill it in",
             rotation=f"{look.rotation:g}",
             absent=", ".join(map(_quoted, look.absent)),
             encoding=""
@@ -539,7 +542,8 @@ def named_grades(look: _Look) -> list[str]:
 
 
 def unused_grades(look: _Look) -> list[str]:
-    """What is said of those that `metals` leaves out: by `init` alone, since a planner may leave one out on purpose."""
+    """What is said of those that `metals` leaves out: by `init` alone, since a planner may leave
+    one out on purpose."""
     used = metals(look)
     left = [name for name in named_grades(look) if f"grade = {_quoted(name)}" not in used]
     return [f"column {name} holds a grade and no metal uses it" for name in left]

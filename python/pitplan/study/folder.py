@@ -19,10 +19,10 @@ from ..model import store
 from ..model.classes import Classes, classes_of
 from ..model.model import Model
 from ..pit.program import Files, Pit
-from ..slopes.listed import offsets_listed
+from ..slopes.slope_settings import offsets_listed
 from ..slopes.offsets import Offset
 from . import edges
-from .pairs import PairCounts, counted_pairs
+from .pair_counts import PairCounts, counted_pairs
 
 _IS_WORDS = kept_json.is_list(kept_json.is_word)
 _IS_PAIRS = kept_json.is_one({each.name: kept_json.is_count for each in fields(PairCounts)})

@@ -7,7 +7,7 @@ from pathlib import Path
 from typing import Any
 
 from ..base.events import of_last_run
-from .turns import is_held
+from .study_lock import is_held
 
 _Event = Mapping[str, Any]
 

@@ -11,12 +11,14 @@ import pandas as pd
 
 from ..base.amounts import THOUSAND, exact_sum
 from ..base.arrays import Array, Bools, Floats, Shorts
-from ..base.errors import PlanError, meant
+from ..base.errors import PlanError
+from ..base.near_words import meant
 from ..table.study_keys import PROCESSES
 from ..table.wrong_values import refuse_wrong
 
 if TYPE_CHECKING:
     from .shells import Shells
+    from .study import Study
 
 YEARS = 15  # that the largest pit takes, where no rate is given
 _MOST_YEARS = 1000  # that it may take: what needs longer has a rate in another unit
@@ -68,11 +70,11 @@ class Rates:
         """
         strange = [name for name in self.processes if names and name not in names]
         if strange:
-            said = f"a rate is told of {strange[0]!r}, and no process is called so"
+            said = f"there is a rate of {strange[0]!r}, and no process is called so"
             raise PlanError(said + meant(strange[0], names), try_this=", ".join(names))
         if names and self.mill is not None:
             raise PlanError(
-                f"a rate is told of a mill, and there are processes: {', '.join(names)}",
+                f"there is a rate of a mill, and there are processes: {', '.join(names)}",
                 try_this="process_rates in place of mill_rate",
             )
         if not names:
@@ -98,8 +100,14 @@ class Rates:
         ):
             if rate and tonnes > _MOST_YEARS * rate:
                 raise PlanError(
-                    f"{what} = {rate:g}: the largest pit's {tonnes:,.0f} tonnes would take {min(tonnes / rate, 1e9):,.0f} years",
-                    try_this=f"{key} in tonnes a year, as {max(tonnes / YEARS, 1):.2g}; the pits stand, and aren't found again",
+                    (
+                        f"{what} = {rate:g}: the largest pit's {tonnes:,.0f} tonnes would take"
+                        f" {min(tonnes / rate, 1e9):,.0f} years"
+                    ),
+                    try_this=(
+                        f"{key} in tonnes a year, as {max(tonnes / YEARS, 1):.2g}; the pits"
+                        " stand, and aren't found again"
+                    ),
                 )
         found = [
             (name, rate or max(feed / YEARS, 1.0)) for (name, rate), feed in zip(self.named, feeds)
@@ -258,8 +266,8 @@ def table(shells: Shells, base: int, rates: Rates) -> pd.DataFrame:
     -------
     DataFrame
         ``factor`` (share of the price), ``blocks``; ``rock_t``, ``ore_t``, ``waste_t`` (tonnes in
-        place; ore is what is treated at the base factor), ``strip`` (waste by ore),
-        ``feed_t`` (what the mill gets, or all processes), ``worth_at_factor`` (text: what `pit` proved),
+        place; ore is what is treated at the base factor), ``strip`` (waste by ore), ``feed_t``
+        (what the mill gets, or all processes), ``worth_at_factor`` (text: what `pit` proved),
         ``worth_at_base`` (exact, rounded to a float at the end), ``npv_best`` (dug shell by shell),
         ``npv_worst`` (the pit bench by bench), ``years``; and for each metal ``grade_<metal>`` (of
         the ore in place, in its own unit) and ``metal_<metal>`` (recovered, in the unit of its
@@ -371,3 +379,25 @@ def benches(shells: Shells, base: int) -> pd.DataFrame:
             for down, i in np.argwhere(c.blocks.T > 0).tolist()
         ]
     )
+
+
+def amounts_of(study: Study, masks: Sequence[Bools], factor: int) -> pd.DataFrame:
+    """What lies in sets of blocks, in columns as `Shells.table`; ore is what goes to the mill at a
+    factor (in thousandths)."""
+    priced, tonnes = study.priced, study.model.blocks["tonnes"].to_numpy(float)
+    metal, weight, rows = priced.metal_of(factor), priced.ore_of(tonnes, factor), []
+    for mask in masks:
+        ore = weight[mask].sum()
+        row = {
+            "blocks": int(mask.sum()),
+            "ore_t": ore,
+            "waste_t": tonnes[mask].sum() - ore,
+            "strip": (tonnes[mask].sum() - ore) / ore if ore else np.nan,
+        }
+        for name, grade in priced.grade.items():
+            row |= {
+                f"grade_{name}": (grade * weight)[mask].sum() / ore if ore else np.nan,
+                f"metal_{name}": metal[name][mask].sum(),
+            }
+        rows.append(row)
+    return pd.DataFrame(rows)

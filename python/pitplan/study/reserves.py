@@ -32,10 +32,10 @@ def reserves(study: Study, parts: Mapping[str, Array], base: int = THOUSAND) -> 
     DataFrame
         The columns of `parts`; ``bench`` (elevation of the blocks' centres), ``rock``, ``class``
         where the table has classes, ``to`` (the name of a process, "mill" where there are none, or
-        "waste"); ``blocks``, ``rock_t`` (tonnes in place), ``feed_t`` (what is treated), ``worth``; and for each metal ``grade_<metal>`` (of
-        these tonnes in place, whatever becomes of them) and ``metal_<metal>`` (recovered). Where a
-        part of a block's tonnes is ore, its rest is waste without metal, and the block counts where
-        its ore goes.
+        "waste"); ``blocks``, ``rock_t`` (tonnes in place), ``feed_t`` (what is treated), ``worth``;
+        and for each metal ``grade_<metal>`` (of these tonnes in place, whatever becomes of them)
+        and ``metal_<metal>`` (recovered). Where a part of a block's tonnes is ore, its rest is
+        waste without metal, and the block counts where its ore goes.
     """
     model, priced = study.model, study.priced
     held: Bools = model.is_rock & np.logical_and.reduce([part != 0 for part in parts.values()])

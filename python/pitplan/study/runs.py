@@ -22,11 +22,19 @@ FactorProgress = Callable[[int, str, float], None]
 
 
 class Runs(Verdicts):
-    """The runs of a study."""
+    """The runs of a study.
 
-    keeps = True  # the certificate of each pit, packed, beside it
-    # when what the next pit needs was begun, where that was before its run
-    began: float | None = None
+    Attributes
+    ----------
+    keeps_certificates : bool
+        Whether the certificate of each pit is kept, packed, beside it; otherwise only its digest
+        is.
+    preparation_seconds : float
+        What it took to write files for `pit` that aren't kept; the next pit's time includes it.
+    """
+
+    keeps_certificates = True
+    preparation_seconds = 0.0
 
     def room(self, work: Path) -> Path:
         """The folder in which a certificate is written while it is checked: beside the result,
@@ -63,8 +71,8 @@ class Runs(Verdicts):
         done = self.certified(factor)
         if done:
             return done
-        began, place = self.began or time.monotonic(), self.place(factor)
-        self.began = None
+        start, place = time.monotonic() - self.preparation_seconds, self.place(factor)
+        self.preparation_seconds = 0.0
         stated = self.mask(factor) if self.verdict(factor) else None
         with made_whole(place) as work:
             found = self.program.best(
@@ -72,7 +80,7 @@ class Runs(Verdicts):
                 factor,
                 self.room(work) / "best.cert",
                 _solving(progress, factor),
-                self.keeps,
+                self.keeps_certificates,
             )
             self.agree(found, factor)
             if stated is not None and (stated != found.mask).any():
@@ -85,18 +93,18 @@ class Runs(Verdicts):
                 )
             if sure:
                 sure()
-            return self.kept(work, found, time.monotonic() - began)
+            return self.kept(work, found, time.monotonic() - start)
 
-    def kept(self, work: Path, found: Accepted | Stated, seconds: float) -> Verdict:
+    def kept(self, work: Path, verdict: Accepted | Stated, seconds: float) -> Verdict:
         """Writes a pit that has been added up, and its verdict, into a folder that is then renamed
         to its place."""
-        bits = np.packbits(found.mask)
+        bits = np.packbits(verdict.mask)
         np.savez_compressed(work / "pit.npz", bits=bits)
         done = Verdict(
-            factor=found.factor,
-            count=found.count,
-            worth=found.worth,
-            certificate=found.certificate,
+            factor=verdict.factor,
+            count=verdict.count,
+            worth=verdict.worth,
+            certificate=verdict.certificate,
             bits=hashlib.sha256(bits.tobytes()).hexdigest(),
             model=self.key,
             pit=self.version,
@@ -104,7 +112,7 @@ class Runs(Verdicts):
             host=host(),
         )
         (work / "verdict.json").write_text(json.dumps(done, indent=1))
-        self.added_up.add((found.factor, done["bits"], found.count, found.worth))
+        self.added_up.add((verdict.factor, done["bits"], verdict.count, verdict.worth))
         return done
 
     def run_series(
@@ -129,7 +137,7 @@ class Runs(Verdicts):
         NotAccepted, Disagreement
             As `run`.
         """
-        began, pits = time.monotonic(), self.folder / "runs" / "base"
+        start, pits = time.monotonic(), self.folder / "runs" / "base"
         pits.mkdir(parents=True, exist_ok=True)
         with tempfile.TemporaryDirectory(
             prefix=f".f{factors[0]:05d}-{factors[-1]:05d}.{mark()}", dir=pits
@@ -143,7 +151,7 @@ class Runs(Verdicts):
             sure()
         for pit in found:
             with made_whole(self.place(pit.factor)) as work_of_pit:
-                self.kept(work_of_pit, pit, (time.monotonic() - began) / len(found))
+                self.kept(work_of_pit, pit, (time.monotonic() - start) / len(found))
             if progress:
                 progress(pit.factor, "done", 1.0)
 

@@ -42,8 +42,9 @@ class Study(Runs):
     ----------
     manifest : dict
         ``key`` (of the two files that `pit` reads), ``files`` (sha256 by name), ``blocks``,
-        ``regions`` (how many blocks each region of slopes has), ``metals``, ``currency``, ``source`` (the table, as `near`
-        has it, and its sha256), ``keys`` (the digest of study.toml), ``pit``.
+        ``regions`` (how many blocks each region of slopes has), ``metals``, ``currency``,
+        ``source`` (the table, as `near` has it, and its sha256), ``keys`` (the digest of
+        study.toml), ``pit``.
 
     Raises
     ------

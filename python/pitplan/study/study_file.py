@@ -11,17 +11,8 @@ from dataclasses import dataclass, field, fields
 from pathlib import Path
 from typing import Any
 
-from ..base.errors import (
-    Gathered,
-    KeyPath,
-    PlanError,
-    Remedy,
-    Several,
-    about,
-    meant,
-    near_to,
-    spelled,
-)
+from ..base.errors import Gathered, KeyPath, PlanError, Remedy, Several, about, toml_spelled
+from ..base.near_words import meant, near_to
 from ..base.next_command import command
 from ..model.economics import Economics, Metal, Process
 from ..model.grid import Grid
@@ -112,7 +103,7 @@ def table_found(study_toml: Path, table: Path) -> Iterator[None]:
                 for each in like
             ]
             error.remedy = ways[0] if len(ways) == 1 else None
-            names = " or ".join(f"table = {spelled(way.value)}" for way in ways)
+            names = " or ".join(f"table = {toml_spelled(way.value)}" for way in ways)
             error.try_this = f"{names} in [model]"
         raise
 
@@ -324,29 +315,29 @@ def _parts_of(path: Path, document: Mapping[str, Any], read: Document | None = N
     return found
 
 
-def _whole_section(found: Parts, name: str, section: Mapping[str, Any]) -> None:
+def _whole_section(parts: Parts, name: str, section: Mapping[str, Any]) -> None:
     """Keeps what a section says of which each key is right by itself."""
-    errors = Gathered(found.path.name)
+    errors = Gathered(parts.path.name)
     with errors.part(name):
         if name == "model":
-            found.keys = _made("model", TableKeys, section)
+            parts.keys = _made("model", TableKeys, section)
         elif name == "economics":
-            found.economics = economics_of(section)
+            parts.economics = economics_of(section)
         elif name == "slopes":
-            found.slopes = _made("slopes", Slopes, section)
+            parts.slopes = _made("slopes", Slopes, section)
         elif name == "shells":
             with about("shells", "factors"):
-                found.factors = _series(study_keys.with_defaults("shells", section)["factors"])
-    found.errors.add(errors.errors)
+                parts.factors = _series(study_keys.with_defaults("shells", section)["factors"])
+    parts.errors.add(errors.errors)
     if errors.errors:
-        _of_right_keys(found, name, section, errors.errors)
+        _of_right_keys(parts, name, section, errors.errors)
 
 
 def _of_right_keys(
-    found: Parts, name: str, section: Mapping[str, Any], wrong: list[PlanError]
+    parts: Parts, name: str, section: Mapping[str, Any], wrong: list[PlanError]
 ) -> None:
     """Keeps what the right keys of a section say, and what is wrong with them together."""
-    partly, errors = found.partly, Gathered(found.path.name)
+    partly, errors = parts.partly, Gathered(parts.path.name)
     hidden = {(name, key) for key in _hidden_keys(name, section, wrong, (name,))}
     partly.covered |= hidden
     right = {key: value for key, value in section.items() if (name, key) not in hidden}
@@ -379,7 +370,7 @@ def _of_right_keys(
     elif name == "shells" and "factors" in right:
         with errors.part("shells", "factors"):
             _series(right["factors"])
-    found.errors.add(partly.to_tell(errors.errors))
+    parts.errors.add(partly.to_tell(errors.errors))
 
 
 def _right_part(
@@ -463,7 +454,7 @@ def _mill_rates(document: Mapping[str, Any]) -> list[PlanError]:
     return [
         PlanError(
             f"[{name}] mill_rate says the rate of a mill, and there are processes: of which is it?",
-            try_this=f"take it out, and rate = {spelled(section['mill_rate'])} in one of [[economics.processes]]",
+            try_this=f"take it out, and rate = {toml_spelled(section['mill_rate'])} in one of [[economics.processes]]",
             key=(name, "mill_rate"),
         ).with_remedy(Remedy((name, "mill_rate"), None))
         for name in ("shells", "schedule")
@@ -503,13 +494,13 @@ def _part_path(kind: str, part: Mapping[str, Any], at: int) -> KeyPath:
     return ("economics", kind, part["name"] if isinstance(part.get("name"), str) else at)
 
 
-def _made(section: str, kind: Any, found: Mapping[str, Any]) -> Any:
+def _made(section: str, kind: Any, values: Mapping[str, Any]) -> Any:
     """A dataclass of the keys of a section: of those that it has a field for."""
     names = {f.name for f in fields(kind) if f.init}
-    return kind(**{name: value for name, value in found.items() if name in names})
+    return kind(**{name: value for name, value in values.items() if name in names})
 
 
-def economics_of(found: Mapping[str, Any]) -> Economics:
+def economics_of(values: Mapping[str, Any]) -> Economics:
     """The section [economics].
 
     Raises
@@ -518,42 +509,42 @@ def economics_of(found: Mapping[str, Any]) -> Economics:
         With each error that hangs on no other one.
     """
     wrong = Gathered()
-    wrong.add(_wrong_in_section("economics", found))
+    wrong.add(_wrong_in_section("economics", values))
     wrong.tell()
     made: dict[str, list[Any]] = {kind: [] for kind in study_keys.LISTS}
     for kind, of_part in ((study_keys.METALS, Metal), (study_keys.PROCESSES, Process)):
-        for part in found.get(kind, ()):
+        for part in values.get(kind, ()):
             with wrong.part("economics", kind, part["name"]):
                 made[kind].append(_made(kind, of_part, part))
     wrong.tell()
     economics: Economics = _made(
-        "economics", Economics, {**found, **{kind: tuple(parts) for kind, parts in made.items()}}
+        "economics", Economics, {**values, **{kind: tuple(parts) for kind, parts in made.items()}}
     )
     return economics
 
 
-def _series(found: Any) -> list[int]:
+def _series(value: Any) -> list[int]:
     """The factors in thousandths: a series from, to, by; or a list of shares of the price."""
     try:
-        if not isinstance(found, Mapping):
-            return series_of(found)
-        low, high, step = (float(found[key]) for key in value_kinds.SERIES)
+        if not isinstance(value, Mapping):
+            return series_of(value)
+        low, high, step = (float(value[key]) for key in value_kinds.SERIES)
         if high > low and step > high - low + 1e-9:
             raise PlanError(f"factors from {low:g} to {high:g} by {step:g}: the step is too large")
         return factors(low, high, step)
     except PlanError as error:
         named = "" if error.what.startswith("factors") else "factors: "
         raise PlanError(
-            f"[shells] {named}{error.what}", try_this=_better_series(found) or error.try_this
+            f"[shells] {named}{error.what}", try_this=_better_series(value) or error.try_this
         ) from None
 
 
-def _better_series(found: Any) -> Remedy | None:
+def _better_series(value: Any) -> Remedy | None:
     """Factors that can be meant by some that can't be taken: those in percent of the price or in
     thousandths as shares of it, and those that don't ascend in order."""
-    is_series = isinstance(found, Mapping)
-    keys = value_kinds.SERIES if is_series else range(len(found))
-    largest = max(abs(found[key]) for key in keys)
+    is_series = isinstance(value, Mapping)
+    keys = value_kinds.SERIES if is_series else range(len(value))
+    largest = max(abs(value[key]) for key in keys)
     times, when = (
         (1, "")
         if largest <= _LARGEST_SHARE
@@ -561,7 +552,7 @@ def _better_series(found: Any) -> Remedy | None:
         if largest <= _LARGEST_PERCENT
         else (1000, "if these are in thousandths")
     )
-    shares = [float(f"{found[key] / times:.9g}") for key in keys]
+    shares = [float(f"{value[key] / times:.9g}") for key in keys]
     if not is_series and _are_from_to_by(shares):
         is_series, keys, when = True, value_kinds.SERIES, when or "for a series"
     if is_series:

@@ -12,7 +12,7 @@ import sys
 from pathlib import Path
 from typing import Any
 
-from ..base.errors import spelled
+from ..base.errors import toml_spelled
 from ..table.study_keys import KEYS, LISTS, METALS, NEEDED, PROCESSES, SECTIONS, Key
 from ..table.value_kinds import KINDS
 
@@ -41,7 +41,7 @@ def row(key: Key) -> str:
         if key.is_needed
         else f"needed, or `{key.unless}`"
         if key.unless
-        else f"`{spelled(key.default)}`"
+        else f"`{toml_spelled(key.default)}`"
         if key.default is not None
         else ""
     )

@@ -5,7 +5,7 @@ from __future__ import annotations
 from collections.abc import Mapping
 from string import Template
 
-from ..base.errors import spelled
+from ..base.errors import toml_spelled
 from ..table.study_keys import KEYS, METALS, SECTIONS, Key
 from ..table.value_kinds import KINDS
 
@@ -39,7 +39,7 @@ def _lines_of(key: Key) -> str:
     is left as a comment."""
     above = "".join(f"# {line}\n" for line in key.before.splitlines())
     value = key.example or _kept(
-        spelled(key.default) if key.default is not None else KINDS[key.kind].example
+        toml_spelled(key.default) if key.default is not None else KINDS[key.kind].example
     )
     is_off = key.is_off or not key.example and key.default is None
     after = "$encoding" if key.path == ("model", "table") else ""
@@ -75,10 +75,10 @@ def metal(values: Mapping[str, object]) -> str:
 
     def value(key: Key) -> str:
         if key.name in values:
-            return spelled(values[key.name])
+            return toml_spelled(values[key.name])
         if key.example or key.default is None:
             return key.example or KINDS[key.kind].example
-        return spelled(key.default)
+        return toml_spelled(key.default)
 
     parts = [
         f"{key.name} = {value(key)}"

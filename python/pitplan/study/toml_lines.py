@@ -11,6 +11,7 @@ from pathlib import Path
 from typing import Any, Union
 
 from ..base.errors import KeyPath, PlanError
+from ..base.typed_numbers import typed_number
 
 _MOST_LINES = 2000  # of a file that is looked through
 # lines of one statement; letters of a line for which something else is looked for
@@ -34,10 +35,10 @@ _CHANGES: tuple[tuple[str, _Change], ...] = (
     (rf"({_NUMBER})\s*%", lambda found: f"{float(found[1]) / 100:.12g}"),
     (rf"({_NUMBER})\s*[^\W\d_°]+[^\s,\]}}]*|({_NUMBER})\s*°", lambda found: found[1] or found[2]),
     (
-        r"(?<![\d.\w])(\d{1,3})((?:,\d{3})+)(?![\d,])",
+        r"(?<![\d.\w])(\d{1,3})((?:,\d{3})+)(?!\d|,\d)",
         lambda found: found[1] + found[2].replace(",", ""),
     ),
-    (r"(?<![\d.\w])(\d+),(\d+)(?![\d,])", r"\1.\2"),
+    (r"(?<![\d.\w])(\d+),(\d+)(?!\d|,\d)", r"\1.\2"),
     (r"(?<![\d.])\.(\d)", r"0.\1"),
     (r"(\d)\.(?!\d)", r"\1.0"),
     (r"(?<![\d.])0+(?=\d)", ""),
@@ -47,6 +48,9 @@ _CHANGES: tuple[tuple[str, _Change], ...] = (
     (r"\s*$", '"'),
     (r"\s*$", " ]"),
     (r"\s*$", " }"),
+)
+_COMMA = re.compile(
+    r"([\w-]+)\s*=\s*([+-]?\d+(?:,\d+)+(?:\.\d+)?)(?=\s*(?:$|[}\]#]|,\s*[}A-Za-z_]))"
 )
 _SPELLED = tuple((re.compile(pattern), change) for pattern, change in _CHANGES)
 _SAME = re.compile("$^"), ""  # changes nothing
@@ -194,11 +198,28 @@ def _refusal(
     said = reason[: at.start()] if at else reason
     line = lines[place].strip() if lines else ""
     better = _meant(lines[start:], place - start) if is_one else None
+    said = _comma_in(line) or f"{said[:1].lower() + said[1:]}: {_without_comment(line)}"
     return PlanError(
-        f"line {place + 1} isn't TOML: {said[:1].lower() + said[1:]}: {_without_comment(line)}",
+        f"line {place + 1} isn't TOML: {said}",
         table=path.name,
         try_this=better or _SAY,
     )
+
+
+def _comma_in(line: str) -> str | None:
+    """What is said of the first number with a comma that a key of a line has; None where none has
+    one.
+
+    >>> _comma_in('{ name = "zinc", price = 2,750, recovery = 0.9 },')
+    'price = 2,750: a number has no comma between thousands, and a point before decimals: 2750 or 2.75'
+    """
+    found = _COMMA.search(_without_comment(line))
+    typed = typed_number(found[2]) if found else None
+    if not found or not typed:
+        return None
+    meant = [f"{it:.12g}" for it in (typed.value, typed.other) if it is not None]
+    said = "a number has no comma between thousands, and a point before decimals"
+    return f"{found[1]} = {found[2]}: {said}: {' or '.join(meant)}"
 
 
 def _meant(statement: Sequence[str], at: int) -> str | None:

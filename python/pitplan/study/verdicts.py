@@ -9,10 +9,9 @@ from pathlib import Path
 from typing import TypedDict, cast
 
 import numpy as np
-import numpy.typing as npt
 
 from ..base import kept_json
-from ..base.arrays import Bools
+from ..base.arrays import Bools, Bytes
 from ..base.errors import Disagreement, PlanError
 from ..base.next_command import command
 from ..base.units_shown import share_text
@@ -119,16 +118,16 @@ class Verdicts(StudyFolder):
             self.adds_up(mask, done["count"], done["worth"], factor)
         return mask
 
-    def agree(self, found: Accepted | Stated, factor: int) -> None:
+    def agree(self, verdict: Accepted | Stated, factor: int) -> None:
         """The first two checks: the pit's worth, added up again from the planner's table in whole
         numbers, is `pit`'s to the last digit, and so is its count of blocks. Raises Disagreement
         where the two differ."""
-        if found.factor != factor or found.size != self.manifest["blocks"]:
+        if verdict.factor != factor or verdict.size != self.manifest["blocks"]:
             raise Disagreement(
-                f"the pit is of factor {share_text(found.factor)} over {found.size:,} blocks, and"
+                f"the pit is of factor {share_text(verdict.factor)} over {verdict.size:,} blocks, and"
                 f" {share_text(factor)} over {self.manifest['blocks']:,} was asked for"
             )
-        self.adds_up(found.mask, found.count, found.worth, factor)
+        self.adds_up(verdict.mask, verdict.count, verdict.worth, factor)
 
     def adds_up(self, mask: Bools, count: int, worth: str, factor: int) -> None:
         """Raises Disagreement where a pit's blocks aren't `count`, or the table doesn't add up to
@@ -157,11 +156,11 @@ class Verdicts(StudyFolder):
             )
 
 
-def _bits_of(path: Path) -> npt.NDArray[np.uint8] | None:
+def _bits_of(path: Path) -> Bytes | None:
     """The blocks of a pit as `Runs.kept` packs them; None where the file is gone or damaged."""
     try:
         with np.load(path, allow_pickle=False) as file:
-            bits: npt.NDArray[np.uint8] = file["bits"]
+            bits: Bytes = file["bits"]
             return bits
     except store.DAMAGED:
         return None

@@ -7,7 +7,7 @@ from dataclasses import dataclass
 
 from ..base.errors import Killed
 from ..base.machine import free_memory, processors
-from ..base.stops import as_they_end
+from ..base.interrupts import as_they_end
 from ..pit.program import MOST_FACTORS
 from .runs import Runs, FactorProgress
 from .verdicts import Verdict
@@ -17,7 +17,7 @@ _PER_BLOCK, _PER_PAIR = (
     350,
     22,
 )
-_OWN = 40  # bytes a block of this process, for each pit at a time
+_OWN_PER_BLOCK = 40  # bytes a block of this process, for each pit at a time
 SHARE = 0.8  # of the free memory, that may be taken
 _SECONDS_A_BLOCK, _SECONDS_A_PAIR = 2.5e-6, 1.4e-7  # of `pit solve` and `pit check`, likewise
 
@@ -42,7 +42,7 @@ def guess_of(study: Runs) -> _Guess:
 
 def memory_of(blocks: int, pairs: int) -> int:
     """Bytes that finding one pit takes, about."""
-    return blocks * (_PER_BLOCK + _OWN) + pairs * _PER_PAIR
+    return blocks * (_PER_BLOCK + _OWN_PER_BLOCK) + pairs * _PER_PAIR
 
 
 def workers_for(study: Runs, wanted: int | None = None) -> int:

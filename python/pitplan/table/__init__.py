@@ -1,9 +1,10 @@
-"""The planner's table as text: what its columns are, formulas over them, cells as numbers."""
+"""The planner's table as text: its dialect, what its columns are, formulas over them, cells as
+numbers; and the keys of study.toml."""
 from __future__ import annotations
 
 from typing import TYPE_CHECKING
 
-from ..base.door import door
+from ..base.public_names import door
 
 if TYPE_CHECKING:
     from .formula import worked_out as worked_out

@@ -10,7 +10,7 @@ _MOST_WORDS = 12  # words of a column that are listed
 _FEW = 3  # .. of one that has more
 
 
-def told_of(values: pd.Series, marks: Sequence[float]) -> dict[str, Any]:
+def line_of_column(values: pd.Series, marks: Sequence[float]) -> dict[str, Any]:
     """What a column has but for cells that stand for "not estimated".
 
     Returns

@@ -6,7 +6,8 @@ import difflib
 import re
 from collections.abc import Callable, Mapping, Sequence
 
-from ..base.errors import Gathered, PlanError, meant, spelled, swap_of
+from ..base.errors import Gathered, PlanError, toml_spelled
+from ..base.near_words import meant, swap_of
 
 AIR = "air"  # the rock of a place within the model that the planner calls air
 
@@ -297,8 +298,8 @@ def which_columns(
 
 
 def columns_with(known: Mapping[str, str], **more: str) -> str:
-    """What to write into study.toml where further columns have to be named: the whole table, as it comes in place of the one that
-    stands there.
+    """What to write into study.toml where further columns have to be named: the whole table, as it
+    comes in place of the one that stands there.
 
     Parameters
     ----------
@@ -309,7 +310,7 @@ def columns_with(known: Mapping[str, str], **more: str) -> str:
     'columns = { x = "XC", y = "YC", tonnes = "..." } in [model]'
     """
     kept = {key: name for key, name in known.items() if key in USUAL}
-    return f"columns = {spelled({**kept, **more})} in [model]"
+    return f"columns = {toml_spelled({**kept, **more})} in [model]"
 
 
 def columns_found(header: Sequence[str], given: Mapping[str, str]) -> dict[str, str]:
@@ -326,15 +327,15 @@ def columns_found(header: Sequence[str], given: Mapping[str, str]) -> dict[str, 
 
 
 def with_few_classes(
-    names: Mapping[str, str], given: Mapping[str, str], words: Callable[[str], int]
+    names: Mapping[str, str], given: Mapping[str, str], count_of: Callable[[str], int]
 ) -> dict[str, str]:
     """The columns without that of classes, where it has a usual name alone and more words than
-    classes have; `words` counts those of a column."""
+    classes have; `count_of` counts those of a column."""
     usual = names.get("class") if "class" not in given else None
     return {
         key: name
         for key, name in names.items()
-        if key != "class" or usual is None or words(usual) <= MOST_CLASSES
+        if key != "class" or usual is None or count_of(usual) <= MOST_CLASSES
     }
 
 

@@ -36,14 +36,14 @@ SMALL, _MOST_TIMES = (
     1 << 26,
     200,
 )
-PIECE = 1 << 20  # bytes of a table that are looked through at a time
+CHUNK_SIZE = 1 << 20  # bytes of a table that are looked through at a time
 _HELD = 3  # bytes of memory that a byte of a table takes while it is read
 SAY_ENCODING = (
     'save it as "CSV UTF-8"; or tell init --encoding cp1252, or say encoding = "cp1252" in [model]'
 )
 _TABLES = (".csv", ".csv.gz", ".txt", ".dat", ".asc")  # how files are called that may be tables
 _ALIKE = 0.6  # from 0 to 1: names of files that are less alike aren't offered
-_MOST_NEAR = 6  # names of files that are told
+_MOST_NAMES = 6  # names of files that are told
 _MOST_WORDS = 1000  # different cells that a column of codes has at most; one of numbers with a mark among them has more
 NO_WEIGHT = 'its tonnes or density in that cell: a cell that counts as "not estimated" weighs 0, and makes air of rock'
 NO_PLACE = "fill its place in, or take the row out"  # what to try where a coordinate is no number
@@ -109,10 +109,16 @@ def open_table(path: Path) -> IO[bytes]:
     Raises
     ------
     PlanError
-        Where there is no such file, or it can't be opened.
+        Where there is no such file, it can't be opened, or it is a pipe.
     """
     refuse_outside(path)
     try:
+        if path.is_fifo():
+            raise PlanError(
+                "is a pipe, and a table is read more than once",
+                table=path,
+                try_this="a file with what the pipe gives",
+            )
         if path.suffix.lower() == ".gz":
             return cast(IO[bytes], io.BufferedReader(_Unpacked(path), 1 << 18))
         return open(path, "rb")
@@ -163,8 +169,8 @@ def _tables_near(path: Path) -> str:
     if like:
         return os.path.relpath(like[0])
     if names:
-        return f"one of the tables of that folder: {', '.join(names[:_MOST_NEAR])}" + (
-            ", .." if len(names) > _MOST_NEAR else ""
+        return f"one of the tables of that folder: {', '.join(names[:_MOST_NAMES])}" + (
+            ", .." if len(names) > _MOST_NAMES else ""
         )
     return f"a path to a CSV file: the folder {folder} has none"
 
@@ -236,7 +242,10 @@ def _no_text(path: Path, encoding: str) -> PlanError:
                 line.decode(encoding)
             except UnicodeDecodeError as error:
                 return PlanError(
-                    f"isn't text in {called}: the byte {line[error.start]:#04x} stands behind {line[:error.start].decode(encoding, 'replace')[-20:]!r}",
+                    (
+                        f"isn't text in {called}: the byte {line[error.start]:#04x} stands"
+                        f" after {line[:error.start].decode(encoding, 'replace')[-20:]!r}"
+                    ),
                     table=path,
                     row=row,
                     try_this=SAY_ENCODING,
@@ -367,7 +376,7 @@ def _refuse_returns(path: Path, dialect: Dialect) -> None:
 def has_lone_return(file: IO[bytes]) -> bool:
     """Whether a carriage return stands before something else than the end of a line."""
     left = b""
-    while piece := file.read(PIECE):
+    while piece := file.read(CHUNK_SIZE):
         piece = left + piece
         if piece.count(b"\r") > piece.count(b"\r\n") + piece.endswith(b"\r"):
             return True
@@ -398,7 +407,10 @@ def _tell_return(text: IO[str], path: Path, separator: str) -> None:
                 f"a carriage return stands within the row, after {before[-20:]!r}",
                 table=path,
                 row=row + 1,
-                try_this="take it out; or quotes around that cell, which a spreadsheet sets by itself where it saves CSV",
+                try_this=(
+                    "take it out; or quotes around that cell, which a spreadsheet sets by"
+                    " itself where it saves CSV"
+                ),
             ) from None
 
 
@@ -519,7 +531,7 @@ def _parsed(
 
 
 def _of_one_kind(
-    frame: pd.DataFrame, path: Path, names: Sequence[str], given: Mapping[str, Any]
+    frame: pd.DataFrame, path: Path, names: Sequence[str], options: Mapping[str, Any]
 ) -> pd.DataFrame:
     """The table with each column of few words as text throughout. pandas reads a large table piece
     by piece: where a piece has numbers alone, 007 is 7 there, and another code than the 007 of a
@@ -538,7 +550,7 @@ def _of_one_kind(
                 file,
                 names=list(names),
                 **{
-                    **given,
+                    **options,
                     "usecols": mixed,
                     "dtype": str,
                     "na_values": {name: [""] for name in mixed},

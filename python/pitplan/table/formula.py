@@ -17,7 +17,8 @@ import numpy as np
 import pandas as pd
 
 from ..base.arrays import Array
-from ..base.errors import PlanError, meant, near_to
+from ..base.errors import PlanError
+from ..base.near_words import meant, near_to
 from ..base.usual_metals import METALS
 from .column_names import AIR
 from .csv_text import number_column
@@ -256,18 +257,18 @@ class _Reading:
             f"{self.stated}: {ast.unparse(node)!r} isn't part of a formula", try_this=_PARTS
         )
 
-    def call(self, name: str, words: list[ast.expr], node: ast.expr) -> Any:
+    def call(self, name: str, arguments: list[ast.expr], node: ast.expr) -> Any:
         """What one of `_FUNCTIONS` gives, or the column of a name that is no plain word. Raises
         PlanError where it calls anything else."""
         if (
             name == "column"
-            and len(words) == 1
-            and isinstance(words[0], ast.Constant)
-            and isinstance(words[0].value, str)
+            and len(arguments) == 1
+            and isinstance(arguments[0], ast.Constant)
+            and isinstance(arguments[0].value, str)
         ):
-            return self.column(words[0].value)
-        if name in _FUNCTIONS and len(words) == _FUNCTIONS[name][0]:
-            return _FUNCTIONS[name][1](*map(self.value, words))
+            return self.column(arguments[0].value)
+        if name in _FUNCTIONS and len(arguments) == _FUNCTIONS[name][0]:
+            return _FUNCTIONS[name][1](*map(self.value, arguments))
         raise PlanError(
             f"{self.stated}: {ast.unparse(node)!r} isn't part of a formula", try_this=_PARTS
         )

@@ -71,7 +71,7 @@ def write_table(frame: Any, target: str | os.PathLike[str]) -> None:
 
 def _rounded(values: Floats) -> Floats:
     """The nearest numbers of 15 digits, which is what a float holds of any number: what adding up
-    has left behind them is nothing. Whole numbers stay, and so do those next to 0.
+    has left after them is nothing. Whole numbers stay, and so do those next to 0.
 
     >>> _rounded(np.array([26.8 * 300, 0.1 + 0.2, 12345678901234567.0])).tolist()
     [8040.0, 0.3, 1.2345678901234568e+16]

@@ -177,7 +177,11 @@ KEYS = (
         "columns",
         "your names of the columns "
         + " ".join(USUAL)
-        + ", where they aren't the usual ones; `topography` and `ore` have no usual names: the percent of a block that is rock, which alone weighs anything; and the percent of its tonnes that is ore, which alone has grades and may go to the mill",
+        + (
+            ", where they aren't the usual ones; `topography` and `ore` have no usual names:"
+            " the percent of a block that is rock, which alone weighs anything; and the percent"
+            " of its tonnes that is ore, which alone has grades and may go to the mill"
+        ),
         "Columns",
         choices=tuple(USUAL),
         default={},
@@ -189,7 +193,10 @@ KEYS = (
         "model",
         "tonnes",
         "formula",
-        "what the block of a row weighs, by a formula over the table's columns; in place of a column of tonnes or density",
+        (
+            "what the block of a row weighs, by a formula over the table's columns; in place of"
+            " a column of tonnes or density"
+        ),
         "Tonnes by a formula",
         "t",
         is_written=False,
@@ -198,7 +205,11 @@ KEYS = (
         "model",
         "units",
         "units",
-        'what coordinates and tonnes are in: `length` is `"m"` or `"ft"`, `weight` is `"t"` or `"st"`, short tons; costs, rates, tables and pictures too. A column of density is in tonnes a cubic metre whatever they are',
+        (
+            'what coordinates and tonnes are in: `length` is `"m"` or `"ft"`, `weight` is `"t"`'
+            ' or `"st"`, short tons; costs, rates, tables and pictures too. A column of density'
+            " is in tonnes a cubic metre whatever they are"
+        ),
         "Other units",
         default={},
         is_written=False,
@@ -207,7 +218,10 @@ KEYS = (
         "model",
         "size",
         "size",
-        "of a block along the model's x, y and z axes, in the unit of the coordinates; not needed where the table has columns of sizes",
+        (
+            "of a block along the model's x, y and z axes, in the unit of the coordinates; not"
+            " needed where the table has columns of sizes"
+        ),
         "Size of a block",
         "m, along x, y and z",
         least=0,
@@ -240,7 +254,10 @@ KEYS = (
         "model",
         "absent",
         "words",
-        'cells that stand for "not estimated", as `"-99"`, or `""` for an empty one, spelled as in the table; they count as 0',
+        (
+            'cells that stand for "not estimated", as `"-99"`, or `""` for an empty one,'
+            " spelled as in the table; they count as 0"
+        ),
         "Not estimated",
         default=[],
         example="[$absent]",
@@ -395,7 +412,11 @@ KEYS = (
         "economics",
         "forbid",
         "formulas",
-        "formulas; blocks for which one holds may not be dug. Of sub-blocks one is enough. They keep no rows of air, which have no tonnes; `build` says how many blocks they keep",
+        (
+            "formulas; blocks for which one holds may not be dug. Of sub-blocks one is enough."
+            " They keep no rows of air, which have no tonnes; `build` says how many blocks they"
+            " keep"
+        ),
         "May not be dug",
         default=[],
         note='blocks that may not be dug, as ["$x > 12000"]',
@@ -404,7 +425,10 @@ KEYS = (
         "economics",
         "waste_classes",
         "words",
-        "resource classes that are never ore, as the column `class` of [model] spells them: what is inferred may count as waste",
+        (
+            "resource classes that are never ore, as the column `class` of [model] spells them:"
+            " what is inferred may count as waste"
+        ),
         "Classes that count as waste",
         default=[],
         example='["INF"]',
@@ -436,13 +460,19 @@ KEYS = (
         + "; price_unit: "
         + " ".join(PRICES)
         + "; recovery: a number, a column, a formula, or by rock;\n"
-        "payable: the share of the price that is paid; selling: what selling a unit of metal costs, whatever its price; not multiplied by payable",
+        "payable: the share of the price that is paid; selling: what selling a unit of"
+        " metal costs, whatever its price; not multiplied by payable",
     ),
     Key(
         "economics",
         PROCESSES,
         "processes",
-        "several ways to treat a block, as a mill and a heap leach, in place of `processing` and `mill`: a list of tables `[[economics.processes]]`, each with the keys below. A block goes where it is worth most at the price in question, the first of these of as much, and to waste where none pays",
+        (
+            "several ways to treat a block, as a mill and a heap leach, in place of"
+            " `processing` and `mill`: a list of tables `[[economics.processes]]`, each with"
+            " the keys below. A block goes where it is worth most at the price in question, the"
+            " first of these of as much, and to waste where none pays"
+        ),
         "Processes",
         default=[],
         is_written=False,
@@ -451,7 +481,10 @@ KEYS = (
         "slopes",
         "angles",
         "angles",
-        "the overall slope of walls, in degrees; or a list of bearing and angle, between which the angle changes evenly",
+        (
+            "the overall slope of walls, in degrees; or a list of bearing and angle, between"
+            " which the angle changes evenly"
+        ),
         "Overall slope",
         "degrees",
         default=45,
@@ -461,7 +494,11 @@ KEYS = (
         "slopes",
         "by",
         "column",
-        "a column that says the region of a block, with angles of its own for each; or a formula that gives a word. In it `elevation` is that of the block's centre, and `below_ground` how far it lies below the highest rock of its column",
+        (
+            "a column that says the region of a block, with angles of its own for each; or a"
+            " formula that gives a word. In it `elevation` is that of the block's centre, and"
+            " `below_ground` how far it lies below the highest rock of its column"
+        ),
         "Regions by",
         wrong="the name of a column, or a formula as where(below_ground < 60, 'WEATHERED', 'FRESH'), in quotes",
         note="a column; or a formula as where(below_ground < 60, 'WEATHERED', 'FRESH')",
@@ -503,7 +540,11 @@ KEYS = (
         "slopes",
         "ramp",
         "ramp",
-        "the ramp that passes walls of a `height`, or that of each region by its name: then angles are those between ramps, and walls get the overall angles. `turns` says how often it passes over that height, or `around` how long a turn is in plan",
+        (
+            "the ramp that passes walls of a `height`, or that of each region by its name: then"
+            " angles are those between ramps, and walls get the overall angles. `turns` says"
+            " how often it passes over that height, or `around` how long a turn is in plan"
+        ),
         "Ramp",
         "m; grade a share",
         example=RAMP,
@@ -564,7 +605,10 @@ KEYS = (
         "schedule",
         "years",
         "count",
-        "how many years may be dug in; default: as many as the rates need for the pit, and one more",
+        (
+            "how many years may be dug in, of at most 200 periods; default: as many as the rates need"
+            " for the pit, and one more"
+        ),
         "Years",
         "years",
         least=1,
@@ -616,6 +660,18 @@ KEYS = (
     ),
     Key(
         "schedule",
+        "process_rates",
+        "process_rates",
+        (
+            "tonnes of feed a year of some of the processes, each a number or a list by year likewise;"
+            " default: the `rate` of each"
+        ),
+        "Rates of processes",
+        "tonnes of feed a year",
+        is_written=False,
+    ),
+    Key(
+        "schedule",
         "discount",
         "number",
         "a share a year; default: that of [shells]",
@@ -631,7 +687,11 @@ KEYS = (
         "schedule",
         "cutoff",
         "choice",
-        "where a block goes that would pay at the mill: always there, or to the mill or to waste, whichever brings more in the year it is dug",
+        (
+            'where a block goes that would pay at the mill or a process: "fixed" sends it where it is'
+            ' worth most at the full price; "by year" sends it there, to another process or to waste,'
+            " whichever brings more in the year it is dug"
+        ),
         "Cut-off",
         choices=("fixed", "by year"),
         default="fixed",
@@ -651,7 +711,10 @@ KEYS = (
         "schedule",
         "panel",
         "count",
-        "blocks by blocks of a bench that are dug together: 2 makes squares of four; the border of a pushback cuts them",
+        (
+            "blocks by blocks of a bench that are dug together: 2 makes squares of four; the"
+            " border of a pushback cuts them"
+        ),
         "Side of a panel",
         "blocks",
         least=1,
@@ -663,7 +726,10 @@ KEYS = (
         "schedule",
         "pushbacks",
         "shares",
-        "factors of pits, of those of [shells]: what the first adds to nothing, each to the one before, and the rest of the pit are dug in this order, bench by bench",
+        (
+            "factors of pits, of those of [shells]: what the first adds to nothing, each to the"
+            " one before, and the rest of the pit are dug in this order on each bench"
+        ),
         "Pushbacks",
         "shares of the price",
         least=0,
@@ -676,7 +742,10 @@ KEYS = (
         "schedule",
         "lead",
         "count",
-        "benches that a pushback is ahead of those after it: a block waits for all of the pushbacks before its own down to so many benches below it",
+        (
+            "benches that a pushback is ahead of those after it: a block waits for all of the"
+            " pushbacks before its own down to so many benches below it"
+        ),
         "Lead of each pushback",
         "benches",
         least=0,
@@ -745,7 +814,11 @@ KEYS = (
         METALS,
         "selling",
         "number",
-        "what selling a unit of metal costs, whatever its price; `payable` doesn't touch it, so where a contract pays a share of the price less the charge, give that share of the charge. The charge for a penalty element",
+        (
+            "what selling a unit of metal costs, whatever its price; `payable` doesn't touch"
+            " it, so where a contract pays a share of the price less the charge, give that"
+            " share of the charge. The charge for a penalty element"
+        ),
         "Selling",
         "{currency} a unit",
         least=0,
@@ -801,7 +874,10 @@ KEYS = (
         PROCESSES,
         "payable",
         "payables",
-        "of each metal the share of the price that is paid for what this process makes of it; default: that of the metal",
+        (
+            "of each metal the share of the price that is paid for what this process makes of"
+            " it; default: that of the metal"
+        ),
         "Payable",
         "share",
         default={},
@@ -834,7 +910,10 @@ KEYS = (
         PROCESSES,
         "rate",
         "number",
-        "tonnes of its feed a year, for the discounted cases and the plan by years; default: the largest pit takes 15 years, and a plan by years has no limit for it",
+        (
+            "tonnes of its feed a year, for the discounted cases and the plan by years;"
+            " default: the largest pit takes 15 years, and a plan by years has no limit for it"
+        ),
         "Rate",
         "tonnes of feed a year",
         least=0,

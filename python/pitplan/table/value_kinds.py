@@ -101,6 +101,11 @@ def has_ramp(value: Any) -> bool:
     )
 
 
+def _are_rates(value: Any) -> bool:
+    """Whether this is a number, or a list of numbers."""
+    return is_number(value) or is_list(value) and len(value) > 0 and all(map(is_number, value))
+
+
 RAMP = "{ width = 25, grade = 0.10, height = 300, turns = 2 }"
 RAMP_KEYS = ("width", "grade", "height")
 # of each key of a ramp what it is, and an example
@@ -141,6 +146,12 @@ _ANGLES = {
     ]
 }
 _POSITIVE = {"type": "number", "exclusiveMinimum": 0}
+_RATES: dict[str, Any] = {
+    "oneOf": [
+        {**_POSITIVE, "title": "the same each year"},
+        {"title": "year by year", "type": "array", "items": _POSITIVE, "minItems": 1},
+    ]
+}
 _RAMP_SCHEMA: dict[str, Any] = {
     "title": "in all walls",
     "type": "object",
@@ -220,17 +231,26 @@ KINDS: dict[str, Kind] = {
     ),
     "rates": Kind(
         "a number, or a list of numbers by year as [15e6, 20e6], each",
-        lambda value: is_number(value)
-        or is_list(value)
-        and len(value) > 0
-        and all(map(is_number, value)),
-        {
-            "oneOf": [
-                {**_POSITIVE, "title": "the same each year"},
-                {"title": "year by year", "type": "array", "items": _POSITIVE, "minItems": 1},
-            ]
-        },
+        _are_rates,
+        _RATES,
         "[15e6, 20e6]",
+    ),
+    "process_rates": Kind(
+        "a table by process as { mill = [15e6, 20e6], leach = 5e6 }, each a number above 0, or a list"
+        " of such numbers by year",
+        lambda value: is_table(value)
+        and len(value) > 0
+        and all(
+            _are_rates(rate) and min(rate if is_list(rate) else [rate]) > 0
+            for rate in value.values()
+        ),
+        {
+            "type": "object",
+            "minProperties": 1,
+            "propertyNames": {"title": "process"},
+            "additionalProperties": _RATES,
+        },
+        "{ mill = [15e6, 20e6] }",
     ),
     "shares": Kind(
         "a list of numbers as [0.5, 0.75], each",
@@ -245,7 +265,10 @@ KINDS: dict[str, Kind] = {
         "2.50",
     ),
     "recoveries": Kind(
-        'a table by metal as { copper = 0.6, gold = "0.3 + 0.2 * AU" }, each a number, a column, a formula, or a number for each rock',
+        (
+            'a table by metal as { copper = 0.6, gold = "0.3 + 0.2 * AU" }, each a number, a'
+            " column, a formula, or a number for each rock"
+        ),
         lambda value: is_table(value) and all(map(_is_amount, value.values())),
         {
             "type": "object",

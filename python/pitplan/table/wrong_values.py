@@ -6,11 +6,12 @@ import tomllib
 from collections.abc import Iterable, Mapping
 from typing import Any
 
-from ..base.errors import Gathered, KeyPath, PlanError, Remedy, meant, near_to, spelled
+from ..base.errors import Gathered, KeyPath, PlanError, Remedy, toml_spelled
+from ..base.near_words import meant, near_to
 from ..base.typed_numbers import typed_number
 from ..base.units import usual_unit
 from .study_keys import METALS, Key, keys_of
-from .value_kinds import FAR, KINDS, RAMP_KEYS, RAMP_MEANS, has_ramp, is_number, is_table
+from .value_kinds import FAR, KINDS, RAMP_KEYS, RAMP_MEANS, has_ramp, is_list, is_number, is_table
 
 _LEAST_PERCENT = 2  # from which on a number in place of a share is taken for percent
 _WIDEST_VALUE = 120  # letters of a value that is told again
@@ -109,13 +110,13 @@ def _renamed(name: str, value: Any, known: Iterable[str], there: Mapping[str, An
     near = near_to(name, list(known))
     if near is None or near in there:
         return None
-    spelt = spelled(value)
+    spelt = toml_spelled(value)
     return f"{near} = {spelt}" if len(spelt) <= _WIDEST_VALUE else f"{near} in place of {name}"
 
 
-def _retold(value: Any) -> str:
+def _as_shown(value: Any) -> str:
     """A wrong value in an error: tables and lists as TOML spells them."""
-    return spelled(value) if isinstance(value, (dict, list, tuple)) else repr(value)
+    return toml_spelled(value) if isinstance(value, (dict, list, tuple)) else repr(value)
 
 
 def _wrong_ramp(value: Mapping[str, Any], where: str, at: KeyPath) -> PlanError | None:
@@ -128,15 +129,15 @@ def _wrong_ramp(value: Mapping[str, Any], where: str, at: KeyPath) -> PlanError 
     for below, ramp in ramps.items():
         if is_table(ramp) and not has_ramp(ramp):
             said = f"{where} {', '.join(('ramp', *below))}"
-            return _told_twice(ramp, said, (*at, *below)) or _wrong_key(ramp, said, (*at, *below))
+            return _given_twice(ramp, said, (*at, *below)) or _wrong_key(ramp, said, (*at, *below))
     return None
 
 
-def _told_twice(ramp: Mapping[str, Any], said: str, at: KeyPath) -> PlanError | None:
+def _given_twice(ramp: Mapping[str, Any], said: str, at: KeyPath) -> PlanError | None:
     """The error of a ramp that has `turns` and `around`."""
     if not {"turns", "around"} <= set(ramp):
         return None
-    one = spelled({name: part for name, part in ramp.items() if name != "around"})
+    one = toml_spelled({name: part for name, part in ramp.items() if name != "around"})
     return PlanError(
         f"{said} has turns and around, and each says by itself how often the ramp passes",
         try_this=f"{at[-1]} = {one}, or around without turns",
@@ -157,7 +158,7 @@ def _wrong_key(ramp: Mapping[str, Any], said: str, at: KeyPath) -> PlanError | N
         if not (is_number(number) and 0 < number < FAR):
             means, example = RAMP_MEANS[name]
             return PlanError(
-                f"{said}: {name} is {_retold(number)}, and has to be a number above 0: {means}",
+                f"{said}: {name} is {_as_shown(number)}, and has to be a number above 0: {means}",
                 try_this=f"{name} = {example}",
                 key=(*at, name),
             )
@@ -190,8 +191,8 @@ def _wrong_value(key: Key, value: Any, where: str, at: KeyPath) -> PlanError:
         if unit not in key.choices:
             unit = near_to(unit, key.choices) or unit
         return PlanError(
-            f"{where} {key.name} is {_retold(value)}, and has to be {key.must}{near if 'meant' in near else ''}",
-            try_this=Remedy(at, unit) if unit in key.choices else None,
+            f"{where} {key.name} is {_as_shown(value)}, and has to be {key.must}{near if 'meant' in near else ''}",
+            try_this=Remedy(at, unit) if unit in key.choices else _as_may_be(key, value),
             key=at,
         )
     # scaled by the factor, a penalty would fall with the price
@@ -203,12 +204,43 @@ def _wrong_value(key: Key, value: Any, where: str, at: KeyPath) -> PlanError:
         hint = Remedy(at, of_percent(value))
     bare = _unquoted(value)
     is_quoted = bare != value and key.holds(bare)
+    more = ", without quotes" if is_quoted else _first_wrong_rate(key, value)
     error = PlanError(
-        f"{where} {key.name} is {_retold(value)}, and has to be {key.must}{', without quotes' if is_quoted else ''}",
-        try_this=Remedy(at, bare) if is_quoted else hint,
+        f"{where} {key.name} is {_as_shown(value)}, and has to be {key.must}{more}",
+        try_this=Remedy(at, bare) if is_quoted else hint or _as_may_be(key, value),
         key=at,
     )
     return error.with_remedy(error.remedy or remedy)
+
+
+def _first_wrong_rate(key: Key, value: Any) -> str:
+    """Which of several rates is the first that its key may not have, as words to add; none of a key
+    of another kind, or of a rate that stands alone."""
+    if key.kind not in ("rates", "process_rates"):
+        return ""
+    is_by_process = key.kind == "process_rates" and is_table(value)
+    for name, rate in (value if is_by_process else {"": value}).items():
+        for year, number in enumerate(rate if is_list(rate) else [], 1):
+            if not key.holds({name: number} if is_by_process else number):
+                of_year = f"{name} in year {year}" if name else f"year {year}"
+                return f"; {of_year} is {_as_shown(number)}"
+        if is_by_process and not key.holds({name: rate}):
+            return f"; {name} is {_as_shown(rate)}"
+    return ""
+
+
+def _as_may_be(key: Key, value: Any) -> str | None:
+    """A key of [schedule] with a value that it may have: one of its choices, the nearest number, or an
+    example. Of other sections none: what their values have to be says it."""
+    if key.section != "schedule":
+        return None
+    if key.choices:
+        return f"{key.name} = " + " or ".join(map(toml_spelled, key.choices))
+    nearest = min(max(value, key.least), key.most) if is_number(value) else None
+    if key.kind == "count" and nearest is not None:
+        nearest = int(nearest)
+    example = toml_spelled(nearest) if key.holds(nearest) else KINDS[key.kind].example
+    return f"{key.name} = {example}"
 
 
 def of_percent(value: float) -> float:

@@ -20,11 +20,11 @@ from queue import Empty, SimpleQueue
 
 from ..base.errors import Disagreement, MachineError, NotAccepted, PlanError
 from ..base.machine import free_memory, processors
-from ..base.stops import as_they_end
+from ..base.interrupts import as_they_end
 from ..plans.task_line import Task
 from ..study.study import Study
 from ..study.workers import SHARE
-from .task import memory_of_task
+from .tasks import memory_of_task
 
 _TRIES = 3
 _PATIENCE = 20  # seconds that a process gets to take away what it has half done
@@ -50,7 +50,7 @@ def run_local(
     workers : int, optional
         How many at a time, as `processes_for`.
     heard : function, optional
-        Is told of each task that is done.
+        Called with each task that is done.
 
     Returns
     -------

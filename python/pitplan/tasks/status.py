@@ -15,8 +15,8 @@ from ..base.errors import STOPPED
 from ..plans.task_line import Task
 from ..study.study import Study
 from ..base.files import host
-from .engines import Handed, in_slurm
-from .task import DONE_WORDS, Tasks
+from .clusters import Handed, in_slurm
+from .tasks import DONE_WORDS, Tasks
 
 DONE, RUNNING, WAITING, FAILED, TO_DO = "done", "running", "waiting", "failed", "to do"
 STATES = (DONE, RUNNING, WAITING, FAILED, TO_DO)
@@ -52,7 +52,7 @@ def states(
     Parameters
     ----------
     in_hand : mapping, optional
-        What Slurm has, as `engines.in_slurm` says. Default: it is asked.
+        What Slurm has, as `clusters.in_slurm` says. Default: it is asked.
 
     Raises
     ------
@@ -133,17 +133,17 @@ def _is_of(name: str, missing: Sequence[int]) -> bool:
     )
 
 
-def seconds_left(study: Study, found: Sequence[_State]) -> float | None:
+def seconds_left(study: Study, states: Sequence[_State]) -> float | None:
     """How long the rest will take, from the pits that are found and as many at a time as run now;
     None where none is found yet."""
     of = Tasks(study.folder, study.given)
     took = [
         max(verdict["seconds"], 0.0)
-        for state in found
+        for state in states
         for factor in state.task.factors
         if (verdict := of.study(state.task).verdict(factor))
     ]
-    left = sum(state.missing for state in found)
+    left = sum(state.missing for state in states)
     if not took:
         return None if left else 0.0
-    return float(np.mean(took)) * left / max(1, sum(state.state == RUNNING for state in found))
+    return float(np.mean(took)) * left / max(1, sum(state.state == RUNNING for state in states))

@@ -1,9 +1,9 @@
-"""Pictures, and the page."""
+"""Pictures of pits, benches and schedules, the page in three dimensions, reports, and exports."""
 from __future__ import annotations
 
 from typing import TYPE_CHECKING
 
-from ..base.door import door
+from ..base.public_names import door
 
 if TYPE_CHECKING:
     from . import page as page, pictures as pictures

@@ -24,9 +24,9 @@ _BOTH, _LEFT, _OVER = ("#dcdcdc", ""), ("#9ecae1", "///"), ("#fdae6b", "...")
 _MOST_INCHES = (7.6, 8.0)
 
 
-def widest_bench(found: Comparison) -> float:
+def widest_bench(comparison: Comparison) -> float:
     """The bench on which the design and the best pit differ by most tonnes."""
-    benches = found.benches
+    benches = comparison.benches
     return (
         float(benches.bench[(benches.left_t + benches.over_t).idxmax()])
         if len(benches)
@@ -34,7 +34,7 @@ def widest_bench(found: Comparison) -> float:
     )
 
 
-def plan(model: Model, found: Comparison, elevation: float) -> Figure:
+def plan(model: Model, comparison: Comparison, elevation: float) -> Figure:
     """The plan of the bench at an elevation, in true coordinates.
 
     The best pit's outline is a full line, the design's a dashed one. Raises PlanError where the
@@ -42,7 +42,7 @@ def plan(model: Model, found: Comparison, elevation: float) -> Figure:
     """
     cut = planes.bench(model, planes.bench_at(model, elevation))
     there = cut.number >= 0
-    held, best = (there & mask[cut.number] for mask in (found.design.held, found.optimum))
+    held, best = (there & mask[cut.number] for mask in (comparison.design.held, comparison.optimum))
     (left, right), (low, top) = _frame(held | best, cut)
     wide, high = right - left, top - low
     scale = min(_MOST_INCHES[0] / wide, _MOST_INCHES[1] / high)
@@ -76,7 +76,7 @@ def plan(model: Model, found: Comparison, elevation: float) -> Figure:
     add_north_and_scale(axes, model.units.length)
     axes.set_title(
         (
-            f"{found.design.name} beside the best pit at factor {factor_text(found.factor)}:"
+            f"{comparison.design.name} beside the best pit at factor {factor_text(comparison.factor)}:"
             f" {cut.title}"
         ),
         fontsize=11,

@@ -11,7 +11,8 @@ from matplotlib.colors import LightSource, ListedColormap
 from matplotlib.figure import Figure
 from matplotlib.patches import Patch
 
-from ..base.errors import PlanError, meant
+from ..base.errors import PlanError
+from ..base.near_words import meant
 from ..model.model import Model
 from .pictures import PLACES
 
@@ -85,9 +86,9 @@ def _draw_ground(axes: Any, corners: Any, high: Any, size: Any) -> Any:
     return drawn
 
 
-def _draw_words(axes: Any, corners: Any, found: tuple[Any, Any], shape: tuple[int, int]) -> None:
+def _draw_words(axes: Any, corners: Any, ground: tuple[Any, Any], shape: tuple[int, int]) -> None:
     """The words of a column at the ground, each in a colour of its own."""
-    at, words = found
+    at, words = ground
     codes, names = pd.factorize(words.astype(str).str.strip(), sort=True)
     values = np.full(shape[0] * shape[1], np.nan)
     values[at] = codes

@@ -1,7 +1,7 @@
 """One HTML file that opens anywhere without a network: pits in three dimensions and in sections,
 with a slider and tables.
 
-three.js (Debian's libjs-three) and the heights of `levels` stand in the file; `page_views` says
+three.js (Debian's libjs-three) and the heights of `pit_surfaces` stand in the file; `page_views` says
 what is shown.
 """
 from __future__ import annotations
@@ -19,9 +19,9 @@ from typing import TYPE_CHECKING, Any
 from ..base.errors import PlanError
 from ..base.files import whole_file
 from . import page_views
-from .levels import packed, packed_marks
-from .page_views import PATTERNS, Table, View
-from .tones import tones
+from .pit_surfaces import packed, packed_marks
+from .page_views import PATTERNS, ViewTable, View
+from .pit_colours import tones
 
 if TYPE_CHECKING:
     import pandas as pd
@@ -36,6 +36,7 @@ if TYPE_CHECKING:
 THREE_JS = Path("/usr/share/javascript/three")
 _LIBRARIES = {"three": "three.min.js", "orbit": "examples/js/controls/OrbitControls.js"}
 _MANY = 14  # columns from which on their letters are smaller, so that they have room side by side
+_WIDE = 16  # letters from which on a cell may have several lines
 _PLACE = re.compile(r"\{\{(\w+)\}\}")
 
 
@@ -80,7 +81,7 @@ def of_view(view: View) -> dict[str, Any]:
     }
 
 
-def table_html(table: Table) -> str:
+def table_html(table: ViewTable) -> str:
     """A table with its caption as HTML."""
     head = "".join(
         f'<th scope="col">{html.escape(heading)}</th>'
@@ -88,21 +89,32 @@ def table_html(table: Table) -> str:
     )
     rows = zip(*(texts for _, texts in table.columns))
     body = "".join(
-        f'<tr><th scope="row">{html.escape(name)}</th>'
-        + "".join(f"<td>{html.escape(cell)}</td>" for cell in row)
-        + "</tr>\n"
+        f'<tr><th scope="row">{html.escape(name)}</th>' + "".join(map(_cell_html, row)) + "</tr>\n"
         for name, row in zip(table.names, rows)
     )
     caption = html.escape(table.caption)
     is_many = ' class="many"' if len(table.columns) > _MANY else ""
-    return f'<h2>{caption}</h2>\n<div class="scroll" tabindex="0" role="region" aria-label="{caption}"><table{is_many}><thead><tr>{head}</tr></thead>\n<tbody>\n{body}</tbody></table></div>'
+    return (
+        f'<h2>{caption}</h2>\n<div class="scroll" tabindex="0" role="region"'
+        f' aria-label="{caption}"><table{is_many}><thead><tr>{head}</tr></thead>\n<tbody>\n{body}</tbody></table></div>'
+    )
+
+
+def _cell_html(text: str) -> str:
+    """A cell of a table."""
+    is_words = ' class="words"' if len(text) >= _WIDE and " " in text else ""
+    return f"<td{is_words}>{html.escape(text)}</td>"
 
 
 def view_html(number: int, view: View, key: str) -> str:
     """What stands below the pictures: the tables of a view and what they rest on."""
     tables = "\n".join(map(table_html, (view.table, *view.more)))
     said = "".join(f'<p class="said">{html.escape(line.strip())}</p>' for line in view.said)
-    return f'<section id="view-{number}" aria-label="{html.escape(view.name)}">\n{tables}\n{said}<p class="note">{html.escape(view.note)} Model {html.escape(key)}.</p>\n</section>'
+    return (
+        f'<section id="view-{number}"'
+        f' aria-label="{html.escape(view.name)}">\n{tables}\n{said}<p'
+        f' class="note">{html.escape(view.note)} Model {html.escape(key)}.</p>\n</section>'
+    )
 
 
 def facts_html(view: View) -> str:
@@ -141,7 +153,10 @@ def policy(template: str, libraries: Mapping[str, str]) -> str:
         for text in re.findall(r"<script>(.*?)</script>", template, re.DOTALL)
     ]
     styles = re.findall(r"<style>(.*?)</style>", template, re.DOTALL)
-    return f"default-src 'none'; script-src {' '.join(map(digest, scripts))}; style-src {' '.join(map(digest, styles))}; base-uri 'none'; form-action 'none'"
+    return (
+        f"default-src 'none'; script-src {' '.join(map(digest, scripts))}; style-src"
+        f" {' '.join(map(digest, styles))}; base-uri 'none'; form-action 'none'"
+    )
 
 
 def library_texts() -> dict[str, str]:
@@ -262,7 +277,7 @@ def views_of(
 
 
 def write_likelihood(
-    found: Risk, factor: int, path: str | os.PathLike[str], pits: pd.DataFrame | None = None
+    risk: Risk, factor: int, path: str | os.PathLike[str], pits: pd.DataFrame | None = None
 ) -> Path:
     """Writes the page of likelihood over realisations at a factor (in thousandths); `pits` as
     `Risk.pits` gives it.
@@ -274,10 +289,10 @@ def write_likelihood(
     OSError
         Where the file can't be written.
     """
-    view = page_views.likelihood(found, factor, found.pits(factor) if pits is None else pits)
+    view = page_views.likelihood(risk, factor, risk.pits(factor) if pits is None else pits)
     return write_views(
         path,
-        found.study,
+        risk.study,
         [view],
-        f"{found.study.model.name}: likelihood over {found.count:,} realisations",
+        f"{risk.study.model.name}: likelihood over {risk.count:,} realisations",
     )

@@ -5,7 +5,7 @@ and a row of facts for each.
 """
 from __future__ import annotations
 
-from collections.abc import Mapping, Sequence
+from collections.abc import Mapping
 from dataclasses import dataclass, field
 from typing import TYPE_CHECKING, Any
 
@@ -24,7 +24,8 @@ from ..base.units_shown import (
     scale_of,
     separated,
 )
-from .levels import NO_COLUMN, surfaces
+from ..study.pit_by_pit import amounts_of
+from .pit_surfaces import NO_COLUMN, surfaces
 
 if TYPE_CHECKING:
     from ..model.grid import Grid
@@ -58,7 +59,7 @@ _LIKELY = (
 
 
 @dataclass(frozen=True)
-class Table:
+class ViewTable:
     """A table as texts.
 
     Attributes
@@ -87,10 +88,10 @@ class View:
         In the list of views.
     slider : str
         What the slider chooses; the name of a row of `table` follows it.
-    table : Table
+    table : ViewTable
         A row for each surface.
     levels : uint16 array of shape (rows + 1, columns along x, columns along y)
-        As `levels.surfaces`: the ground as it is, then a surface for each row.
+        As `pit_surfaces.surfaces`: the ground as it is, then a surface for each row.
     paint : str
         What the colour of a block says.
     note : str
@@ -107,13 +108,13 @@ class View:
         Whether two surfaces are compared; else each lies within the next.
     said : list of str
         What is told above the facts.
-    more : list of Table
+    more : list of ViewTable
         Below the first one.
     """
 
     name: str
     slider: str
-    table: Table
+    table: ViewTable
     levels: Levels
     paint: str
     note: str
@@ -122,7 +123,7 @@ class View:
     weights: list[float] = field(default_factory=list)
     is_beside: bool = False
     said: list[str] = field(default_factory=list)
-    more: list[Table] = field(default_factory=list)
+    more: list[ViewTable] = field(default_factory=list)
 
     @property
     def middle(self) -> list[int]:
@@ -231,7 +232,7 @@ def pits(shells: Shells, table: pd.DataFrame) -> View:
     return View(
         "Pits by factor",
         "Pit at factor",
-        Table("Pit by pit", "Factor", names, columns),
+        ViewTable("Pit by pit", "Factor", names, columns),
         levels,
         "First pit with the block, by factor",
         (CERTIFIED if shells.certified == len(shells) else STATED) + _PITS,
@@ -242,7 +243,7 @@ def pits(shells: Shells, table: pd.DataFrame) -> View:
     )
 
 
-def by_kinds(study: Study, sets: Mapping[str, Bools], factor: int = THOUSAND) -> list[Table]:
+def by_kinds(study: Study, sets: Mapping[str, Bools], factor: int = THOUSAND) -> list[ViewTable]:
     """Tables of what each set of blocks has of each process, where there are several, and of each
     resource class, where the table has some. Ore is what is treated at a factor (in
     thousandths)."""
@@ -262,7 +263,7 @@ def _by_kind(
     sets: Mapping[str, Bools],
     factor: int,
     kinds: tuple[str, str, Mapping[str, Bools]],
-) -> Table:
+) -> ViewTable:
     """A table of what each set has of each kind: its title, its first heading, and their blocks."""
     title, heading, masks = kinds
     rows = pd.concat(
@@ -273,7 +274,7 @@ def _by_kind(
     ).sort_values("of", key=lambda names: names.map(list(sets).index), kind="stable")
     rows = rows[rows["blocks"] > 0]
     columns = [("Blocks", [f"{v:,}" for v in rows["blocks"]])]
-    return Table(
+    return ViewTable(
         title,
         heading,
         [f"{row.of}, {row.kind}" for row in rows.itertuples()],
@@ -287,18 +288,18 @@ def _added(rock: Any) -> list[float]:
     return found
 
 
-def phases(found: Phases, table: pd.DataFrame | None = None) -> View:
+def phases(phases: Phases, table: pd.DataFrame | None = None) -> View:
     """Pushbacks; `table` as `Phases.table` gives it.
 
     Raises PlanError where a pit's surface isn't one height for each column.
     """
-    study, count = found.shells.study, len(found)
-    table = found.table() if table is None else table
+    study, count = phases.shells.study, len(phases)
+    table = phases.table() if table is None else table
     pushed = [
-        (f"the mine after pushback {k}", (found.pushback > 0) & (found.pushback <= k))
+        (f"the mine after pushback {k}", (phases.pushback > 0) & (phases.pushback <= k))
         for k in range(1, count + 1)
     ]
-    columns = [("Factor of its pit", [factor_text(k) for k in found.shells.factors])]
+    columns = [("Factor of its pit", [factor_text(k) for k in phases.shells.factors])]
     unit = study.model.units.length
     columns += [
         (f"From ({unit})", lengths(table["top"])),
@@ -315,30 +316,32 @@ def phases(found: Phases, table: pd.DataFrame | None = None) -> View:
     return View(
         "Pushbacks",
         "After pushback",
-        Table(f"Pushbacks, {found.set_name}", "Pushback", names, columns),
+        ViewTable(f"Pushbacks, {phases.set_name}", "Pushback", names, columns),
         surfaces(study, pushed),
         "Pushback",
-        _PHASES.format(set=found.set_text),
+        _PHASES.format(set=phases.set_text),
         names,
         count,
         table["rock_t"].tolist(),
-        more=by_kinds(study, {name: found.pushback == int(name) for name in names}),
+        more=by_kinds(study, {name: phases.pushback == int(name) for name in names}),
     )
 
 
-def design(study: Study, found: Comparison) -> View:
+def design(study: Study, comparison: Comparison) -> View:
     """A design beside the best pit.
 
     Raises PlanError where a surface isn't one height for each column.
     """
     from ..plans.compare_words import forbidden_lines, verdict_lines
 
-    held, best = found.design.held, found.optimum
-    levels = surfaces(study, ((f"the design {found.design.name}", held), ("the best pit", best)))
-    table, currency = amounts_of(study, (held, best), found.factor), study.currency
+    held, best = comparison.design.held, comparison.optimum
+    levels = surfaces(
+        study, ((f"the design {comparison.design.name}", held), ("the best pit", best))
+    )
+    table, currency = amounts_of(study, (held, best), comparison.factor), study.currency
     gap = (
-        (separated(found.gap), f"{found.share(found.gap):.2%}")
-        if found.gap is not None
+        (separated(comparison.gap), f"{comparison.share(comparison.gap):.2%}")
+        if comparison.gap is not None
         else ("-", "-")
     )
     columns = [
@@ -348,22 +351,22 @@ def design(study: Study, found: Comparison) -> View:
             _bottoms(study.model.grid, levels),
         ),
         (
-            f"Worth at factor {factor_text(found.factor)}, exact ({currency})",
-            alike([separated(found.worth), separated(found.bound)]),
+            f"Worth at factor {factor_text(comparison.factor)}, exact ({currency})",
+            alike([separated(comparison.worth), separated(comparison.bound)]),
         ),
         (f"Below the proved bound ({currency})", [gap[0], "0"]),
         ("as a share of it", [gap[1], "0.00%"]),
         *rock_and_metal(table, study.manifest["metals"], study.model.units.weight),
     ]
     said = [
-        *found.design.notes,
+        *comparison.design.notes,
         *forbidden_lines(study, held),
-        *verdict_lines(found, currency, study.model.units),
+        *verdict_lines(comparison, currency, study.model.units),
     ]
     return View(
-        f"Design {found.design.name} beside the best pit",
+        f"Design {comparison.design.name} beside the best pit",
         "Surface of",
-        Table("Design and best pit", "Pit", [found.design.name, "best pit"], columns),
+        ViewTable("Design and best pit", "Pit", [comparison.design.name, "best pit"], columns),
         levels,
         "Design and best pit",
         _DESIGN,
@@ -372,17 +375,17 @@ def design(study: Study, found: Comparison) -> View:
         is_beside=True,
         said=said,
         more=[
-            _bench_by_bench(study, found),
-            *by_kinds(study, {found.design.name: held, "best pit": best}, found.factor),
+            _bench_by_bench(study, comparison),
+            *by_kinds(study, {comparison.design.name: held, "best pit": best}, comparison.factor),
         ],
     )
 
 
-def _bench_by_bench(study: Study, found: Comparison) -> Table:
+def _bench_by_bench(study: Study, comparison: Comparison) -> ViewTable:
     """The rock of a design and of the best pit on each bench."""
-    b = found.benches
+    b = comparison.benches
     rock = scale_of(b[["design_t", "best_t"]], study.model.units.weight)
-    return Table(
+    return ViewTable(
         "Bench by bench",
         f"Bench at ({study.model.units.length})",
         lengths(b["bench"]),
@@ -400,42 +403,20 @@ def _bench_by_bench(study: Study, found: Comparison) -> Table:
     )
 
 
-def amounts_of(study: Study, masks: Sequence[Bools], factor: int) -> pd.DataFrame:
-    """What lies in sets of blocks, in columns as `Shells.table`; ore is what goes to the mill at a
-    factor (in thousandths)."""
-    priced, tonnes = study.priced, study.model.blocks["tonnes"].to_numpy(float)
-    metal, weight, rows = priced.metal_of(factor), priced.ore_of(tonnes, factor), []
-    for mask in masks:
-        ore = weight[mask].sum()
-        row = {
-            "blocks": int(mask.sum()),
-            "ore_t": ore,
-            "waste_t": tonnes[mask].sum() - ore,
-            "strip": (tonnes[mask].sum() - ore) / ore if ore else np.nan,
-        }
-        for name, grade in priced.grade.items():
-            row |= {
-                f"grade_{name}": (grade * weight)[mask].sum() / ore if ore else np.nan,
-                f"metal_{name}": metal[name][mask].sum(),
-            }
-        rows.append(row)
-    return pd.DataFrame(rows)
-
-
-def likelihood(found: Risk, factor: int, table: pd.DataFrame) -> View:
+def likelihood(risk: Risk, factor: int, table: pd.DataFrame) -> View:
     """The pits of likelihood 10 to 90 % at a factor (in thousandths), the likeliest blocks first;
     `table` as `Risk.pits` gives it.
 
     Raises PlanError where a surface isn't one height for each column.
     """
-    study, currency = found.study, found.study.currency
+    study, currency = risk.study, risk.study.currency
     table = table.sort_values("likelihood", ascending=False)
     shares = table["likelihood"].tolist()
     names = [f"{share:.0%}" for share in shares]
     levels = surfaces(
         study,
         (
-            (f"the pit of likelihood {name}", found.pit(share, factor))
+            (f"the pit of likelihood {name}", risk.pit(share, factor))
             for name, share in zip(names, shares)
         ),
     )
@@ -458,7 +439,7 @@ def likelihood(found: Risk, factor: int, table: pd.DataFrame) -> View:
     ]
     most = int(np.argmax(table["worth_mean"]))
     said = [
-        f"{found.count:,} realisations at factor {factor_text(factor)}.",
+        f"{risk.count:,} realisations at factor {factor_text(factor)}.",
         (
             f"Of these {len(names)} pits that of at least {names[most]} is worth most on the mean,"
             f" {amount_text(table['worth_mean'].iloc[most], money)} {money.unit}; each"
@@ -469,7 +450,7 @@ def likelihood(found: Risk, factor: int, table: pd.DataFrame) -> View:
     return View(
         f"Likelihood at factor {factor_text(factor)}",
         "Blocks of a likelihood of at least",
-        Table("Pits by likelihood", "At least", names, columns),
+        ViewTable("Pits by likelihood", "At least", names, columns),
         levels,
         "Likelihood, at least",
         _LIKELY,
@@ -477,15 +458,15 @@ def likelihood(found: Risk, factor: int, table: pd.DataFrame) -> View:
         1 + names.index("50%"),
         _added(table["rock_t"]),
         said=said,
-        more=[_spread(found, currency)],
+        more=[_spread(risk, currency)],
     )
 
 
-def _spread(found: Risk, currency: str) -> Table:
+def _spread(risk: Risk, currency: str) -> ViewTable:
     """Tonnes and worth of the realisations' own best pits, factor by factor."""
-    table = found.table()
+    table = risk.table()
     columns: _Columns = []
-    weight = found.study.model.units.weight
+    weight = risk.study.model.units.weight
     for name, column, unit in (("Rock", "rock_t", weight), ("Worth", "worth", currency)):
         ends = [
             (word, f"{column}_{key}")
@@ -500,7 +481,7 @@ def _spread(found: Risk, currency: str) -> Table:
         ]
         scale = scale_of(table[[key for _, key in ends]], unit)
         columns += [scaled(f"{name}, {word}", table[key], scale) for word, key in ends]
-    return Table(
+    return ViewTable(
         (
             "Each realisation's own best pit, its worth at the factor's own price: a tenth lies"
             " below p10, a tenth above p90"

@@ -25,15 +25,16 @@ from mpl_toolkits.axes_grid1.anchored_artists import AnchoredSizeBar
 
 from ..base.arrays import Array, Bools, Floats, Ints
 from ..base.amounts import THOUSAND
-from ..base.errors import PlanError, meant
+from ..base.errors import PlanError
+from ..base.files import whole_file
+from ..base.near_words import meant
 from ..base.next_command import command
 from ..base.units_shown import Scale, factor_text, length_text, scale_of
-from ..base.within import refuse_outside
 from ..study.shells import Shells
 from ..study.study import Study
 from . import plane as planes
 from .plane import Plane
-from .tones import tones
+from .pit_colours import tones
 
 ROCK_HATCH, ROCK_EDGE = "....", "#9a9a9a"
 FENCE_HATCH, _FENCE_EDGE = "xxxx", "#6b6b6b"
@@ -230,11 +231,11 @@ def fullest_row(amounts: Array) -> int:
     return 1 + int(np.argmax(inner)) if (inner > 0).any() else int(np.argmax(amounts))
 
 
-def exaggeration_of(cut: Plane, asked: float | None = None) -> float:
-    """How much longer heights are drawn in a section: as asked, or so that a flat one is no
+def exaggeration_of(cut: Plane, exaggeration: float | None = None) -> float:
+    """How much longer heights are drawn in a section: as given, or so that a flat one is no
     strip."""
-    if asked is not None:
-        return asked
+    if exaggeration is not None:
+        return exaggeration
     wide, high = float(np.ptp(cut.across)), float(np.ptp(cut.up))
     return (
         1.0
@@ -289,13 +290,18 @@ def section(
         model, axis, int(at) if is_index else planes.line_at(model, axis, float(at))
     )
     figure, axes = draw(shells, cut, style, exaggeration_of(cut, style.exaggeration))
+    add_benches(figure, axes, cut)
+    return figure
+
+
+def add_benches(figure: Figure, axes: Any, cut: Plane) -> None:
+    """The toes of benches beside a section: a tick at each, labels and lines as room allows."""
     toes = np.unique(cut.up)
     high = figure.get_figheight() * axes.get_position().height  # inches
     axes.set_yticks(bench_ticks(toes, min(_MOST_LABELS, max(2, int(high * _LABELS_AN_INCH)))))
     if len(toes) <= high * _TICKS_AN_INCH:
         axes.set_yticks(toes, minor=True)  # a tick at each bench
     axes.grid(axis="y", color="#888888", linewidth=0.3)
-    return figure
 
 
 def bench_ticks(toes: Floats, most: int) -> Floats:
@@ -317,11 +323,7 @@ def bench_ticks(toes: Floats, most: int) -> Floats:
 
 def draw(shells: Shells, cut: Plane, style: Style, exaggeration: float) -> tuple[Figure, Any]:
     """The blocks of a plane, the outlines of pits, the key and the titles."""
-    model, colours, fence = (
-        shells.study.model,
-        paint(shells, style.colour),
-        shells.study.priced.forbidden,
-    )
+    colours, fence = paint(shells, style.colour), shells.study.priced.forbidden
     figure, axes, beside = sheet(float(np.ptp(cut.across)), float(np.ptp(cut.up)) * exaggeration)
     shown = np.where(cut.number >= 0, colours.values[cut.number], np.nan)
     image = axes.pcolormesh(cut.across, cut.up, shown, cmap=colours.colours, norm=colours.norm)
@@ -392,14 +394,17 @@ def sheet(wide: float, high: float) -> tuple[Figure, Any, Any]:
 
 
 def add_colour_bar(figure: Figure, beside: Any, image: Any, colours: Paint) -> None:
-    """The scale beside the picture; of many factors as many are named as there is room for."""
+    """The scale beside the picture; of many factors as many are named as there is room for, with
+    the first and the last."""
     bar = figure.colorbar(image, cax=beside, extend=colours.beyond, label=colours.label)
     beside.minorticks_off()
     if colours.ticks is None:
         beside.yaxis.set_major_formatter(SEPARATED)
     else:
         room = max(8, int(figure.get_figheight() * 4) - 7)
-        ticks = colours.ticks[:: -(-len(colours.ticks) // room)]
+        *more, last = colours.ticks
+        step = -(-len(colours.ticks) // room)
+        ticks = [*more[: len(more) - step + 1 : step], last]
         bar.set_ticks([at for at, _ in ticks], labels=[text for _, text in ticks])
 
 
@@ -562,7 +567,7 @@ def pit_by_pit(
     step = -(-len(at) // 24)
     axes.set_xticks(
         at[::step],
-        [factor_text(round(f * 1000)) for f in table["factor"][::step]],
+        [factor_text(round(f * THOUSAND)) for f in table["factor"][::step]],
         rotation=90 if len(at) > 12 else 0,
     )
     axes.set_xlabel("Factor of the price")
@@ -653,18 +658,10 @@ def add_worths(right: Any, left: Any, table: pd.DataFrame, at: Ints, currency: s
 
 
 def save(figure: Figure, path: str | os.PathLike[str], dpi: int = 120) -> Path:
-    """Writes a figure as the name's ending says (.png, .pdf, .svg): beside the place first, and
-    then renamed.
+    """Writes a figure as the name's ending says (.png, .pdf, .svg).
 
     Raises OSError where the folder can't be written.
     """
-    path = Path(path)
-    part = path.with_name(f".{path.stem}.part{path.suffix}")
-    refuse_outside(path.parent, "written")
-    path.parent.mkdir(parents=True, exist_ok=True)
-    try:
+    with whole_file(path) as part:
         figure.savefig(part, dpi=dpi)
-        os.replace(part, path)
-    finally:
-        part.unlink(missing_ok=True)
-    return path
+    return Path(path)

@@ -17,7 +17,7 @@ if TYPE_CHECKING:
 _LINES = ((0.1, ":"), (0.5, "-"), (0.9, "--"))
 
 
-def section(found: Risk, factor: int = THOUSAND, row: int | None = None) -> Figure:
+def section(risk: Risk, factor: int = THOUSAND, row: int | None = None) -> Figure:
     """A section across the model's y axis, each block coloured by its likelihood, with the outlines
     of the pits of at least 10, 50 and 90 %.
 
@@ -45,14 +45,14 @@ def section(found: Risk, factor: int = THOUSAND, row: int | None = None) -> Figu
         sheet,
     )
 
-    likelihood, model = found.likelihood(factor), found.study.model
+    likelihood, model = risk.likelihood(factor), risk.study.model
     if row is None:
         along = model.blocks.iy.to_numpy()
         row = fullest_row(np.bincount(along, likelihood, model.grid.shape[1]))
     cut = cut_of(model, "y", row)
     exaggeration = exaggeration_of(cut)
     there = cut.number >= 0
-    shut = there & found.study.priced.forbidden[cut.number]
+    shut = there & risk.study.priced.forbidden[cut.number]
     values = np.where(there, likelihood[cut.number], np.nan)
     figure, axes, beside = sheet(float(np.ptp(cut.across)), float(np.ptp(cut.up)) * exaggeration)
     image = axes.pcolormesh(
@@ -68,13 +68,13 @@ def section(found: Risk, factor: int = THOUSAND, row: int | None = None) -> Figu
     handles = []
     for share, stroke in _LINES:
         pen = {"color": "black", "linestyle": stroke}
-        line = borders(there & found.pit(share, factor)[cut.number], cut)
+        line = borders(there & risk.pit(share, factor)[cut.number], cut)
         axes.plot(*line, linewidth=1.4, path_effects=CASING, **pen)
         handles.append(Line2D([], [], label=f"Blocks of at least {share:.0%}", **pen))
     rock = {"facecolor": "white", "edgecolor": ROCK_EDGE, "hatch": ROCK_HATCH}
     handles.append(Patch(label="Rock in no pit", **rock))
     handles += add_fence(axes, shut, cut)
-    figure.colorbar(image, cax=beside, label=f"Likelihood over {found.count} realisations")
+    figure.colorbar(image, cax=beside, label=f"Likelihood over {risk.count} realisations")
     axes.set_aspect(exaggeration)
     heading = f"{sentence(cut.title)}: likelihood of each block at factor {share_text(factor)}"
     axes.set_title(heading + second_line(cut, exaggeration), fontsize=12)

@@ -6,13 +6,14 @@ from typing import Any
 
 import numpy as np
 import pandas as pd
+from matplotlib import patheffects
 from matplotlib.backends.backend_agg import FigureCanvasAgg
 from matplotlib.colors import BoundaryNorm, ListedColormap
 from matplotlib.figure import Figure
 from matplotlib.patches import Patch
 
 from ..base.amounts import THOUSAND
-from ..base.units_shown import Scale, scale_of
+from ..base.units_shown import Scale, printed_scale, scale_of
 from ..schedule.plan import Schedule
 from . import plane as planes
 from .pictures import (
@@ -22,6 +23,7 @@ from .pictures import (
     ROCK_HATCH,
     SEPARATED,
     Paint,
+    add_benches,
     add_colour_bar,
     add_north_and_scale,
     add_ore,
@@ -40,25 +42,26 @@ _MINING, _WORTH = "#a3341f", "black"
 # of the mill, or of each process
 _MILLS = ("#1b5e8c", "#7a4a9e", "#2e7d32", "#b26a00", "#5d4037", "#00838f", "#ad1457")
 _LEFT, _WIDE, _GAP = 0.09, 0.87, 0.09  # of the figure's width, between grades the last
+_POINTS, _OUTLINE, _CASING = 72, 0.9, 3.6  # of an inch; of a period's outline, at most
 _MOST_COLUMNS, _MARGIN = 5, 0.08  # of the legend below the tonnes; inches beside and below it
 
 
-def by_year(found: Schedule, years: pd.DataFrame) -> Figure:
+def by_year(schedule: Schedule, years: pd.DataFrame) -> Figure:
     """Ore and waste of each period beside the rates; below them the grades of its ore, its cash
     flow, and what all so far are worth beside the bound.
 
     Parameters
     ----------
-    found : Schedule
+    schedule : Schedule
     years : DataFrame
         As `Tables.years` gives it.
     """
     figure = Figure(figsize=(10.5, 10.8))
     tonnes = figure.add_axes((_LEFT, 0.66, _WIDE, 0.29))
     money = figure.add_axes((_LEFT, 0.12, _WIDE, 0.26))
-    _add_tonnes(tonnes, found, years)
-    _add_money(money, found, years)
-    grades = _add_grades(figure, found, years)
+    _add_tonnes(tonnes, schedule, years)
+    _add_money(money, schedule, years)
+    grades = _add_grades(figure, schedule, years)
     at = years["period"].to_numpy()
     for axes in (tonnes, money, *grades):
         step = -(-len(at) * len(grades if axes in grades else [axes]) // 24)
@@ -66,9 +69,9 @@ def by_year(found: Schedule, years: pd.DataFrame) -> Figure:
         axes.set_xlim(0.4, len(at) + 0.6)
     for axes in (tonnes, money):
         axes.yaxis.set_major_formatter(SEPARATED)
-    money.set_xlabel("Period" if found.production.terms.per_year > 1 else "Year")
-    name = found.shells.study.model.name
-    tonnes.set_title(f"{name}: schedule, at most {found.gap_text} below the best", fontsize=12)
+    money.set_xlabel("Period" if schedule.production.terms.per_year > 1 else "Year")
+    name = schedule.shells.study.model.name
+    tonnes.set_title(f"{name}: schedule, at most {schedule.gap_text} below the best", fontsize=12)
     _make_room(figure, tonnes, _add_legend(figure, tonnes), grades[0])
     return figure
 
@@ -102,9 +105,9 @@ def _make_room(figure: Figure, tonnes: Any, legend: Any, grades: Any) -> None:
         axes.set_position((at.x0, up * share, at.width, at.height * high * share))
 
 
-def _add_grades(figure: Figure, found: Schedule, years: pd.DataFrame) -> list[Any]:
+def _add_grades(figure: Figure, schedule: Schedule, years: pd.DataFrame) -> list[Any]:
     """The grade of each metal in the ore of each period, each metal at a scale of its own."""
-    metals = found.shells.study.manifest["metals"]
+    metals = schedule.shells.study.manifest["metals"]
     each = (_WIDE - _GAP * (len(metals) - 1)) / len(metals)
     made = []
     for i, (name, units) in enumerate(metals.items()):
@@ -125,10 +128,10 @@ def _add_grades(figure: Figure, found: Schedule, years: pd.DataFrame) -> list[An
     return made
 
 
-def _add_tonnes(axes: Any, found: Schedule, years: pd.DataFrame) -> None:
+def _add_tonnes(axes: Any, schedule: Schedule, years: pd.DataFrame) -> None:
     """Bars of ore and waste, the mill's feed by dots, and the two rates by steps."""
-    at, unit = years["period"].to_numpy(), found.shells.study.model.units.weight
-    rock = scale_of(years["rock_t"], unit)
+    at, unit = years["period"].to_numpy(), schedule.shells.study.model.units.weight
+    rock = printed_scale(years["rock_t"], unit)  # as the table beside it, which is printed
     ore, waste = (years[name] / rock.divisor for name in ("ore_t", "waste_t"))
     add_ore(axes, at, years, rock.divisor)
     axes.bar(
@@ -156,7 +159,7 @@ def _add_tonnes(axes: Any, found: Schedule, years: pd.DataFrame) -> None:
         )
     may_be = [f"Feed that {name} may get" for name in names] or ["Feed that may be milled"]
     for capacity, stroke, colour, label in zip(
-        found.production.terms.capacities,
+        schedule.production.terms.capacities,
         ("--", *(":" for _ in may_be)),
         (_MINING, *_MILLS),
         ("Rock that may be dug", *may_be),
@@ -173,14 +176,15 @@ def _add_tonnes(axes: Any, found: Schedule, years: pd.DataFrame) -> None:
                 path_effects=CASING,
                 label=label,
             )
-    axes.set_ylabel(f"In a period ({rock.unit})")
+    period = "period" if schedule.production.terms.per_year > 1 else "year"
+    axes.set_ylabel(f"In a {period} ({rock.unit})")
 
 
-def _add_money(axes: Any, found: Schedule, years: pd.DataFrame) -> None:
+def _add_money(axes: Any, schedule: Schedule, years: pd.DataFrame) -> None:
     """Bars of the cash flow and of what it is worth today, and the line of the worth so far."""
     at = years["period"].to_numpy()
-    bound = float(found.bound)
-    unit: Scale = scale_of(pd.Series([bound, *years["npv"]]), found.shells.study.currency)
+    bound = float(schedule.bound)
+    unit: Scale = scale_of(pd.Series([bound, *years["npv"]]), schedule.shells.study.currency)
     for column, colour, aside, label in (
         ("cash_flow", _FLOW, -0.2, "Cash flow"),
         ("discounted", _DISCOUNTED, 0.2, "Discounted"),
@@ -216,9 +220,9 @@ def _add_money(axes: Any, found: Schedule, years: pd.DataFrame) -> None:
     axes.legend(loc="upper center", bbox_to_anchor=(0.5, -0.17), ncol=4, frameon=False)
 
 
-def middle_of(found: Schedule) -> tuple[float, int]:
+def middle_of(schedule: Schedule) -> tuple[float, int]:
     """The toe of the bench on which most periods dig, and the row with most dug blocks."""
-    model, period = found.shells.study.model, found.years
+    model, period = schedule.shells.study.model, schedule.years
     blocks = model.blocks[period > 0]
     count = blocks.assign(year=period[period > 0]).groupby("iz")["year"].nunique()
     level = int(count.idxmax())
@@ -226,28 +230,30 @@ def middle_of(found: Schedule) -> tuple[float, int]:
     return model.grid.origin[2] + (level - 0.5) * model.grid.size[2], row
 
 
-def plan(found: Schedule, elevation: float) -> Figure:
+def plan(schedule: Schedule, elevation: float) -> Figure:
     """The plan of the bench at an elevation, each block in the colour of its period."""
-    model = found.shells.study.model
-    figure, axes = _draw(found, planes.bench(model, planes.bench_at(model, elevation)), 1.0)
+    model = schedule.shells.study.model
+    figure, axes = _draw(schedule, planes.bench(model, planes.bench_at(model, elevation)), 1.0)
     add_north_and_scale(axes, model.units.length)
     return figure
 
 
-def section(found: Schedule, row: int) -> Figure:
+def section(schedule: Schedule, row: int) -> Figure:
     """The section along a row of the model, each block in the colour of its period."""
-    cut = planes.section(found.shells.study.model, "y", row)
-    return _draw(found, cut, exaggeration_of(cut))[0]
+    cut = planes.section(schedule.shells.study.model, "y", row)
+    figure, axes = _draw(schedule, cut, exaggeration_of(cut))
+    add_benches(figure, axes, cut)
+    return figure
 
 
-def _paint(found: Schedule) -> Paint:
+def _paint(schedule: Schedule) -> Paint:
     """A colour for each period, the darker the earlier."""
-    count = int(found.period.max()) + 1
-    dug = (found.period >= 0) & found.shells.study.model.is_rock
+    count = int(schedule.period.max()) + 1
+    dug = (schedule.period >= 0) & schedule.shells.study.model.is_rock
     table = ListedColormap(shades(LIGHTEST * np.linspace(0, 1, count)))
-    label = "Period" if found.production.terms.per_year > 1 else "Year"
+    label = "Period" if schedule.production.terms.per_year > 1 else "Year"
     return Paint(
-        np.where(dug, found.period, np.nan),
+        np.where(dug, schedule.period, np.nan),
         table,
         BoundaryNorm(np.arange(count + 1) - 0.5, count),
         label,
@@ -255,18 +261,30 @@ def _paint(found: Schedule) -> Paint:
     )
 
 
-def _draw(found: Schedule, cut: Plane, exaggeration: float) -> tuple[Figure, Any]:
+def _strokes(figure: Figure, axes: Any, cut: Plane, exaggeration: float) -> tuple[float, Any]:
+    """The width of a period's outline in points, and its casing: thin where blocks are drawn small,
+    since a period may be one block wide, and its colour has to be seen."""
+    across, up = cut.across - cut.across[0, 0], (cut.up - cut.up[0, 0]) * exaggeration
+    side = min(np.hypot(across[at], up[at]) for at in ((0, 1), (1, 0)))
+    wide = figure.get_figwidth() * axes.get_position().width
+    room = side * wide * _POINTS / float(np.ptp(cut.across))
+    white = patheffects.withStroke(linewidth=min(_CASING, room / 4), foreground="white")
+    return min(_OUTLINE, room / 10), [white]
+
+
+def _draw(schedule: Schedule, cut: Plane, exaggeration: float) -> tuple[Figure, Any]:
     """The blocks of a plane by their period, and rock that stays."""
-    model, colours = found.shells.study.model, _paint(found)
+    model, colours = schedule.shells.study.model, _paint(schedule)
     figure, axes, beside = sheet(float(np.ptp(cut.across)), float(np.ptp(cut.up)) * exaggeration)
     there = cut.number >= 0
     shown = np.where(there, colours.values[cut.number], np.nan)
     image = axes.pcolormesh(cut.across, cut.up, shown, cmap=colours.colours, norm=colours.norm)
     hatch(axes, there & np.isnan(shown), cut)
     axes.plot(*planes.borders(there, cut), color="#555555", linewidth=0.6)
+    width, casing = _strokes(figure, axes, cut, exaggeration)
     for t in np.unique(shown[~np.isnan(shown)]).tolist():
         line = planes.borders(shown <= t, cut)
-        axes.plot(*line, color="black", linewidth=0.9, path_effects=CASING)
+        axes.plot(*line, color="black", linewidth=width, path_effects=casing)
     add_colour_bar(figure, beside, image, colours)
     rock = {"facecolor": "white", "edgecolor": ROCK_EDGE, "hatch": ROCK_HATCH}
     figure.legend(

@@ -36,8 +36,7 @@ export const agreed = question => new Promise(done => {
 
 /** Whether the desk doesn't answer, or has another token. */
 const isGone = () => document.body.matches(".away, .shut");
-/** Asks the server. What it refuses comes with `errors`, in pitplan's words.
- * @param {string} method @param {string} path @param {any} body @returns {Promise<any>} */
+/** Asks the server. What it refuses comes with `errors`, in pitplan's words. @param {any} body */
 export async function ask(method, path, body, { quiet = false, raw = false } = {}) {
   if (!path) return { ok: false, errors: [] }; // the study was left meanwhile
   const how = body === undefined || raw ? { method, body }
@@ -52,9 +51,9 @@ export async function ask(method, path, body, { quiet = false, raw = false } = {
   if (isGone()) return { ok: false, isGone: true, errors: [] };
   if (wasGone && D.study?.text) refresh();
   const isJson = answer.headers.get("content-type")?.startsWith("application/json");
-  const told = isJson ? await answer.json() : { errors: [{ said: await answer.text() }] };
-  if (!answer.ok && !quiet) say(told.errors?.[0]?.said ?? answer.statusText, "bad");
-  return Object.assign(told, { ok: answer.ok }); // a run has a status of its own
+  const facts = isJson ? await answer.json() : { errors: [{ said: await answer.text() }] };
+  if (!answer.ok && !quiet) say(facts.errors?.[0]?.said ?? answer.statusText, "bad");
+  return Object.assign(facts, { ok: answer.ok }); // a run has a status of its own
 }
 
 /** Asks for something; what is refused is shown where it belongs. @param {string} path */
@@ -74,9 +73,21 @@ export const here = () => [where().screen, where().part].filter(it => it && it !
 const stands = path => path.reduce(stepped, D.study.values ?? {});
 let sent = []; // changes that are on their way
 /** @param {any[]} path @returns {any} what study.toml has there, or is about to have */
-export function valueOf(path) {
-  const last = sent.findLast(each => same(each.path, path));
-  return last ? last.value ?? undefined : stands(path);
+export const valueOf = path => path.reduce(stepped, sent.reduce((values, { path: to, value }) => (
+  put(values, to, made(value, at => at.reduce(stepped, values)))), D.study.values ?? {}));
+/** @param {any} value or what makes it of what stands at paths @param {(at: any[]) => any} read */
+const made = (value, read) => (typeof value === "function" ? value(read) : value);
+/** The values with another value at a path, or with none: what is beside it is the same. */
+function put(values, [step, ...rest], value) {
+  const [isList, isName] = [Array.isArray(values), typeof step === "string"];
+  const place = isList && isName ? values.findIndex(each => each.name === step) : step;
+  if (place === -1) return values;
+  const now = rest.length ? put(values?.[place] ?? {}, rest, value) : value;
+  const copy = isList ? [...values] : { ...values };
+  if (now !== null && now !== undefined) copy[place] = now;
+  else if (isList) copy.splice(place, 1);
+  else delete copy[place];
+  return copy;
 }
 /** @param {any} v @param {string|number} step by its name in a list of tables @returns {any} */
 export const stepped = (v, step) => (Array.isArray(v) && typeof step === "string"
@@ -84,13 +95,17 @@ export const stepped = (v, step) => (Array.isArray(v) && typeof step === "string
 
 // What is written goes one change after the other; how many are under way stands at the root.
 let queued = Promise.resolve();
+let written = 0; // changes that were answered
 const wait = more => { root.pending = Number(root.pending ?? 0) + more; };
-/** @param {{path: any[], value: any, was?: any}[]} changes of study.toml; a value of null takes a
- * key out, and what stood there when somebody began to type goes before what stands there now */
+/** @param {{path: any[], value: any, was?: any}[]} changes of study.toml: null takes a key out, a
+ * function makes it of what stands there then, and `was` goes before what stands there now */
 export function change(...changes) {
   sent = [...sent, ...changes];
-  return queue(() => ({ changes: changes.map(({ path, value, was = stands(path) ?? null }) => (
-    { path, value, was })) }), changes);
+  const answered = queue(() => ({ changes: changes.map(
+    ({ path, value, was = stands(path) ?? null }) => (
+      { path, value: made(value, stands), was })) }), changes);
+  draw(); // so that who goes on sees what is about to stand there
+  return answered;
 }
 
 /** @param {() => any} body @param {any[]} changes that it has @returns {Promise<any>} */
@@ -106,16 +121,21 @@ async function write(body, changes) {
   const before = new Set(D.study.text.split("\n"));
   const send = () => ask("PATCH", path, asked);
   const [path, asked] = [api(), { ...body(), who: who() }];
-  let told = await send();
-  for (; told.isGone; told = await send()) await pause(AGAIN); // what was typed waits for the desk
+  let answer = await send();
+  // what was typed waits for the desk
+  for (; answer.isGone; answer = await send()) await pause(AGAIN);
   sent = sent.filter(each => !changes.includes(each));
-  if (told.stale) await reread();
-  if (!told.ok) return draw();
-  if (told.name !== D.study?.name) return undefined; // the study was left meanwhile
-  if (!same(told.values?.model, D.study.values?.model)) relook();
-  Object.assign(D, { study: told, edits: D.edits?.text === asked.text ? null : D.edits });
-  if (told.kept) say(`what stood in study.toml is kept as ${told.kept}`, "good");
-  D.changed = new Set(told.text.split("\n").flatMap((l, n) => (before.has(l) ? [] : [n])));
+  if (!answer.ok) return reread().then(draw); // written all the same, where only the answer failed
+  if (answer.name !== D.study?.name) return undefined; // the study was left meanwhile
+  if (!same(answer.values?.model, D.study.values?.model)) relook();
+  Object.assign(D, { study: answer, edits: D.edits?.text === asked.text ? null : D.edits });
+  written += 1;
+  for (const each of sent) { // typed over this one: it has seen what was typed, not what it became
+    const isOver = done => same(done.path, each.path) && same(done.value, each.was);
+    if (changes.some(isOver)) each.was = stands(each.path) ?? null;
+  }
+  if (answer.kept) say(`what stood in study.toml is kept as ${answer.kept}`, "good");
+  D.changed = new Set(answer.text.split("\n").flatMap((l, n) => (before.has(l) ? [] : [n])));
   await draw();
   return refresh();
 }
@@ -128,7 +148,6 @@ function refresh() {
   checked = checked.catch(() => undefined).then(() => mine === latest && recheck(mine));
   return checked;
 }
-
 async function recheck(mine) {
   const of = D.study?.name;
   const wants = where().screen === "slopes" ? ["check", "rose"] : ["check"];
@@ -142,10 +161,10 @@ async function recheck(mine) {
 async function open(name) {
   Object.assign(D, opened({ name }));
   await draw(); // nothing of another study is left to be pressed
-  const told = await reread();
+  const found = await reread();
   if (D.study?.name !== name) return;
-  if (!told.ok) {
-    say(told.errors[0]?.said ?? "", "bad");
+  if (!found.ok) {
+    say(found.errors[0]?.said ?? "", "bad");
     location.hash = "#/";
   } else await draw().then(() => Promise.all([refresh(), relook()]));
 }
@@ -153,9 +172,10 @@ async function open(name) {
 let isUnread = false; // what the desk couldn't tell is asked again
 /** Asks, and keeps it. @param {string} key of D @param {...string} path @returns {Promise<any>} */
 async function kept(key, ...path) {
-  const of = D.study?.name;
+  const [of, before] = [D.study?.name, written];
   const found = await look(api(...path));
   if (D.study?.name !== of) return found;
+  if (key === "study" && written !== before) return kept(key, ...path); // asked before a change
   if (key === "study") isUnread = !found.ok;
   if (found.ok || key === "look") D[key] = found; // what is wrong with a table is told
   return found;
@@ -166,16 +186,16 @@ const relook = () => kept("look", "look").then(draw); // by the keys of [model]
 export async function eventsOf(which) {
   const { list, upto } = D.events[which] ?? { list: [], upto: 0 };
   const of = D.study.name;
-  const told = await look(`${api("runs", which)}?from=${upto}`);
-  if (!told.ok || D.study?.name !== of) return null;
-  D.events[which] = { list: [...list, ...told.events], upto: told.upto };
-  D.study.runs = D.study.runs.map(run => (run.number === which ? told : run));
-  return told;
+  const run = await look(`${api("runs", which)}?from=${upto}`);
+  if (!run.ok || D.study?.name !== of) return null;
+  D.events[which] = { list: [...list, ...run.events], upto: run.upto };
+  D.study.runs = D.study.runs.map(each => (each.number === which ? run : each));
+  return run;
 }
 
-/** @param {any} asked as asked.py has it */
+/** @param {any} asked as button_commands.py has it */
 export const start = asked => ask("POST", api("runs"), { ...asked, who: who() })
-  .then(told => told.ok && reread().then(draw));
+  .then(begun => begun.ok && reread().then(draw));
 
 /** @returns {any} the run that goes on, if one does */
 export const going = () => D.study?.runs?.find(run => run.state === "running");
@@ -240,18 +260,15 @@ function top() {
     !run && D.study?.pulse?.held && chip("warn", D.study.pulse.held)]));
 }
 
-/** A link to a screen, or to a part of one. @param {string} id @param {string[]} to
- * @param {string} label @param {boolean} isHere @param {string} mark */
+/** A link to a screen, or to a part of one. @param {string} id @param {string[]} to */
 export const tab = (id, to, label, isHere, mark = "") => h("a", { href: link(D.study.name, ...to),
   id, className: (isHere ? "here " : "") + mark, "aria-current": isHere ? "page" : null }, label);
-
 function nav(isStudy) {
   const wrong = faults().map(f => placeOf(f.key).split("/")[0]);
   const tabs = Object.entries(screens).map(([name, s]) => isStudy && tab(`to.${name}`, [name],
     s.label, where().screen === name, wrong.includes(name) ? "wrong" : ""));
   like(byId("nav"), nodes(tabs));
 }
-
 /** Shows the field of a key. @param {string} section @param {string} key */
 export async function toField(section, key) {
   const id = `f.${section}.${key}`;
@@ -299,7 +316,6 @@ function aside() {
 /** Keeps what is chosen, and draws. @param {any} choices @param {string} key @param {Take} read */
 export const keep = (choices, key, read = v => v) => v => Object.assign(choices,
   { [key]: read(v) }) && draw();
-
 // The id of what drawing took the focus from, until it can have it again.
 let lost = "";
 function refocus(before) {
@@ -343,8 +359,8 @@ export async function go() {
   if (!study) {
     D.study = null;
     await draw();
-    const told = await ask("GET", "/api/folder");
-    if (told.ok) D.home = told;
+    const folder = await ask("GET", "/api/folder");
+    if (folder.ok) D.home = folder;
   } else {
     D.home ??= await ask("GET", "/api/folder");
     if (D.study?.name !== study) return open(study);

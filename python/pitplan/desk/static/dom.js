@@ -4,8 +4,7 @@
 /** @typedef {(v: any) => any} Take @typedef {Object<string, any>} Told */
 const isSome = v => v !== undefined && v !== null && v !== false;
 /** An element. A key that begins with "on" is a listener; what is none keeps an empty place.
- * @param {string} what its name, with its classes after dots
- * @param {...any} parts attributes, if any; texts, elements, and lists of them @returns {any} */
+ * @param {string} what name and classes, with dots @param {...any} parts @returns {any} */
 export function h(what, ...parts) {
   const [name, ...classes] = what.split(".");
   const e = document.createElement(name);
@@ -22,11 +21,9 @@ export function h(what, ...parts) {
   e.append(...parts.flat(9).map(part => (isSome(part) ? part : document.createComment(""))));
   return e;
 }
-
 /** @param {any[]} list @returns {ChildNode[]} its texts and elements, at one level */
 export const nodes = list => [...h("div", list).childNodes];
-/** Makes what is there like what was drawn anew, in place: so a field keeps what is being typed in
- * it, and a page in a frame isn't loaded again. @param {any} old @param {any} fresh */
+/** Makes what is there like what was drawn anew, in place: fields keep what is being typed. */
 function morph(old, fresh) {
   const isOther = ["nodeName", "id", "data"].some(key => old[key] !== fresh[key]);
   if (isOther) return old.replaceWith(fresh);
@@ -52,14 +49,12 @@ function morph(old, fresh) {
   if (isBox && !isTyping && old.value !== value) old.value = value;
   return undefined;
 }
-
 /** @param {Element} parent @param {ChildNode[]} now */
 export function like(parent, now) {
   const was = [...parent.childNodes];
   now.forEach((n, i) => (was[i] ? morph(was[i], n) : parent.append(n)));
   was.slice(now.length).forEach(n => n.remove());
 }
-
 /** @param {any} v @param {number} digits @returns {string} */
 export const number = (v, digits = 0) => (!isSome(v) || v === "" || Number.isNaN(+v) ? ""
   : (+v).toLocaleString("en", { minimumFractionDigits: digits, maximumFractionDigits: digits }));
@@ -84,7 +79,6 @@ export const having = (list, value, is) => [...list.filter(each => each !== valu
 /** The first free name. @param {Take} named @param {string[]} there @param {number} n */
 export const free = (named, there, n = 1) => (there.includes(named(n))
   ? free(named, there, n + 1) : named(n));
-
 /** @param {any} text @param {any} onclick @param {Told} more */
 export const button = (text, onclick, more = {}) => h("button",
   { type: "button", onclick, ...more }, text);
@@ -100,31 +94,27 @@ export const looks = list => list.length > 0 && h("ul.looks", list);
 export const chip = (kind, text, title) => h("span", { className: `chip ${kind}`, title }, text);
 /** @param {...any} parts boxes and words in a line */
 export const amounts = (...parts) => h("div.amount", parts);
-/** A table; its first `words` columns stand left. @param {any[]} names @param {any[][]} rows
- * @param {{words?: number, className?: string, rows?: (n: number) => Told}} how */
+/** A table; its first `words` columns stand left. @param {any[]} names @param {any[][]} rows */
 export function table(names, rows, { words = 1, className = "", rows: row } = {}) {
   const cells = (tag, list) => list.map((c, i) => h(i < words ? `${tag}.word` : tag, c));
   return h("div.scroll", { tabIndex: rows.length > 30 ? 0 : undefined },
     h("table", { className: `data ${className}` }, h("thead", h("tr", cells("th", names))),
       h("tbody", rows.map((list, r) => h("tr", row?.(r) ?? {}, cells("td", list))))));
 }
-
 /** A box to tick. @param {string} id @param {any} label @param {boolean} is @param {Take} pick */
 export const tick = (id, label, is, pick) => h("label", h("input", { type: "checkbox", id,
   checked: is, onchange: e => pick(e.target.checked) }), ` ${label} `);
 /** A box for a text. @param {string} id @param {any} now @param {Take} pick @param {Told} more */
 export const entry = (id, now, pick, more = {}) => h("input", { id, value: now, ...more,
   onchange: e => pick(e.target.value.trim()) });
-/** A list to choose from. @param {string} id @param {any[]} options values, or [value, words]
- * @param {any} now @param {Take} pick @param {string} label */
+/** A list to choose from. @param {any[]} options values, or [value, words] @param {Take} pick */
 export const choice = (id, options, now, pick, label) => h("select", { id, "aria-label": label,
   onchange: e => pick(e.target.value) }, options.map(o => (Array.isArray(o) ? o : [o, o]))
-  .map(([value, told]) => h("option", { value, selected: value === now }, told)));
+  .map(([value, words]) => h("option", { value, selected: value === now }, words)));
 /** @param {string} id @param {string} label @param {any} box */
 export const labelled = (id, label, box) => h("span.pair", h("label", { htmlFor: id }, label), box);
-/** A box for a value that others may change meanwhile. What stood there when typing began goes with
- * what was typed, so that the later of two changes is known; then what was typed stands there.
- * @param {any} seen @param {Told} attributes @param {Take} read @param {Function} take */
+/** A box for a value that others may change meanwhile: what stood there when typing began goes
+ * with what was typed. @param {any} seen @param {Take} read @param {Function} take */
 export function box(seen, attributes, read, take) {
   const onchange = ({ target }) => {
     const [was, now] = [target.seen, read(target.value)]; // nothing is being typed any more

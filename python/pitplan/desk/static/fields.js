@@ -20,11 +20,11 @@ const isTable = v => typeof v === "object" && v !== null && !Array.isArray(v);
 const unitOf = (k, now) => [now].flat().filter(n => n >= 1e4).map(n => `= ${number(n)} `).join("")
   + k.unit.replace("{currency}", valueOf(["economics", "currency"]) ?? "$");
 const numbers = text => word(text) && text.split(/;|,\s/.test(text) ? /;|,\s/ : ",").map(value);
-/** @param {any} was what stood there for whoever changes it; what stands there, if undefined */
-export const set = (path, now, was) => !same(was, now) && change({ path, value: now, was });
+/** @param {any} now as `change` has it @param {any} was what stood there for whoever changes it */
+export const set = (path, now, was) => (typeof now === "function" || !same(was, now))
+  && change({ path, value: now, was });
 const out = (path, title) => small("×", () => set(path, null), title);
-/** A box for a number or words. @param {any[]} path @param {Key} key @param {{width?: number,
- *   list?: string, shown?: any, read?: (text: string) => any}} how */
+/** A box for a number or words. @param {any[]} path @param {Key} key */
 function input(path, key, { width, list, shown = valueOf(path), read = value } = {}) {
   const isOwn = path.at(-1) === key.name; // and not one of several
   const step = Number.isInteger(path.at(-1)) ? path.at(-1) + 1 : "";
@@ -36,8 +36,7 @@ function input(path, key, { width, list, shown = valueOf(path), read = value } =
   read, (now, was) => set(path, now, was));
 }
 
-/** @param {any[]} path @param {any[]} options @param {Key} key @param {string} [empty] what none
- * of them is called @param {(text: string) => any} read */
+/** @param {any[]} path @param {any[]} options @param {string} [empty] what none is called */
 function select(path, options, key, empty, read = word) {
   const now = String(valueOf(path) ?? "");
   const all = now === "" || options.includes(now) ? options : [...options, now];
@@ -45,19 +44,22 @@ function select(path, options, key, empty, read = word) {
     v => set(path, read(v)), path.at(-1) === key.name && key.label);
 }
 
-/** What the keys of a table may be. @type {Object<string, (now: any) => string[]>} */
+const METALS = ["economics", "metals"];
+/** What the keys of a table may be, by what stands there and elsewhere. */
 const NAMES = {
   rock: now => (isTable(now) && "other" in now ? [] : rocks().length && rocks().length < 12
     ? rocks() : [...rocks().slice(0, 11), "other"]),
-  region: () => { // also of numbers, as domains are
+  region: (now, at) => { // also of numbers, as domains are
     const { region, regions: all, columns: every = [] } = D.look ?? {};
-    const by = valueOf(["slopes", "by"]);
+    const by = at(["slopes", "by"]);
     return (by === region ? all : every.find(c => c.name === by)?.words) ?? [];
   },
-  metal: () => listNow("metals").map(metal => metal.name),
-  currency: () => [...new Set(listNow("metals").map(metal => metal.currency).filter(Boolean))],
+  metal: (now, at) => (at(METALS) ?? []).map(metal => metal.name),
+  process: (now, at) => (at(["economics", "processes"]) ?? []).map(process => process.name),
+  currency: (now, at) => [...new Set(
+    (at(METALS) ?? []).map(metal => metal.currency).filter(Boolean))],
 };
-const namesOf = (schema, now) => NAMES[schema.propertyNames.title](now);
+const namesOf = (schema, now, at) => NAMES[schema.propertyNames.title](now, at);
 /** @param {any} v @param {any} schema @returns {boolean} whether a value is of this form */
 const fits = (v, { type, oneOf, properties, additionalProperties: each }) => (
   properties ? isTable(v) && Object.keys(v).every(key => key in properties)
@@ -69,14 +71,14 @@ const fits = (v, { type, oneOf, properties, additionalProperties: each }) => (
 const usual = v => (Array.isArray(v) ? usual(Array.isArray(v[0]) ? v[0] : v.at(-1))
   : isTable(v) ? usual(Object.values(v)[0]) : v);
 
-/** @param {any} schema @param {any} now @param {Key} key @returns {any} what a form begins with:
- * what stands there, as this form says it */
-function start(schema, now, key) {
+/** What a form begins with: what stands there, as this form says it; `at` reads elsewhere. */
+function start(schema, now, key, at) {
   const { type, items, properties, additionalProperties: each, oneOf } = schema;
   if (properties) return [now, ...Object.values(now ?? {}), key.default, key.start].find(
     v => fits(v, schema));
-  if (oneOf) return start(oneOf[0], now, key);
-  if (each) return Object.fromEntries(namesOf(schema, now).map(n => [n, start(each, now, key)]));
+  if (oneOf) return start(oneOf[0], now, key, at);
+  if (each) return Object.fromEntries(namesOf(schema, now, at).map(
+    n => [n, start(each, now, key, at)]));
   const [first] = schema.enum ?? schema.examples ?? [];
   if (first !== undefined) return value(String(first));
   const one = [now, key.default, key.start, 1].map(usual).find(v => typeof v === "number");
@@ -98,25 +100,24 @@ function form(path, key, schema = key.schema) {
     : input(path, key, { width: 34, shown: valueOf(path)?.join?.(", "), read: numbers });
 }
 
-/** A value told in one of several ways. @param {any[]} path @param {Key} key @param {any[]} ways */
+/** A value of one of several forms. @param {any[]} path @param {Key} key @param {any[]} ways */
 function several(path, key, ways) {
   const now = valueOf(path);
-  const at = Math.max(ways.findIndex(way => fits(now ?? key.default, way)), 0);
-  if (now === undefined && ways[at].required) return form(path, key, ways[at]);
-  return amounts(choice(idOf([...path, "how"]), ways.map(way => way.title), ways[at].title,
-    title => set(path, start(ways.find(way => way.title === title), now, key)), "how it is told"),
-  form(path, key, ways[at]));
+  const which = ways.find(way => fits(now ?? key.default, way)) ?? ways[0];
+  if (now === undefined && which.required) return form(path, key, which);
+  return amounts(choice(idOf([...path, "how"]), ways.map(way => way.title), which.title,
+    title => set(path, at => start(ways.find(way => way.title === title), at(path), key, at)),
+    "how it is told"), form(path, key, which));
 }
 
-/** A table: a form for each key that it has, and a button for each that it may have besides.
- * @param {any[]} path @param {Key} key @param {any} schema @param {() => any} end takes it out */
+/** A table: a form for each key that it has, and a button for each that it may have besides. */
 function parts(path, key, schema, end = () => set(path, null)) {
   const { properties, required = [], additionalProperties: each } = schema;
   const now = valueOf(path);
   if (required.length && !now) return small(`+ ${key.label.toLowerCase()}`,
-    () => set(path, start(schema, now, key)));
+    () => set(path, at => start(schema, at(path), key, at)));
   const has = Object.keys(now ?? {});
-  const more = properties ? Object.keys(properties) : namesOf(schema, now);
+  const more = properties ? Object.keys(properties) : namesOf(schema, now, valueOf);
   const of = name => properties?.[name] ?? each;
   if (has.length + more.length === 0) return h("small", "none");
   const isWhole = required.length > 0 && path.at(-1) === key.name;
@@ -124,7 +125,7 @@ function parts(path, key, schema, end = () => set(path, null)) {
     form([...path, name], key, of(name)), !required.includes(name) && small("×",
       () => (has.length > 1 ? set([...path, name], null) : end()), `take ${name} out`)])),
   more.filter(name => !has.includes(name)).map(name => small(`+ ${name}`,
-    () => set([...path, name], start(of(name), now, key)), key.help)),
+    () => set([...path, name], at => start(of(name), at(path), key, at)), key.help)),
   isWhole && out(path, `take ${key.label} out`));
 }
 
@@ -132,12 +133,14 @@ function parts(path, key, schema, end = () => set(path, null)) {
 function bearings(path, key, items) {
   const now = valueOf(path);
   const order = [...now.keys()].sort((i, j) => now[i][0] - now[j][0]);
-  const [last, degrees] = now[order.at(-1)];
-  const more = [...now, [Math.round((last + 360) / 2), degrees]];
+  const more = all => {
+    const [last, degrees] = all.reduce((one, other) => (other[0] >= one[0] ? other : one));
+    return [...all, [Math.round((last + 360) / 2), degrees]];
+  };
   return [h("small", "at bearing: degrees "), order.map(i => h("span.word",
     form([...path, i], key, items), now.length > 1 && small("×", () => set(path,
-      now.filter((_, n) => n !== i)), `take bearing ${now[i][0]} out`))),
-  small("+", () => set(path, more), "a bearing more")];
+      at => at(path).filter((_, n) => n !== i)), `take bearing ${now[i][0]} out`))),
+  small("+", () => set(path, at => more(at(path))), "a bearing more")];
 }
 
 function regions(path, key) {
@@ -145,22 +148,20 @@ function regions(path, key) {
   const both = (by, now) => change({ path: ["slopes", "by"], value: by }, { path, value: now });
   if (valueOf(["slopes", "by"])) return parts(path, key, key.schema, () => both(null, null));
   return h("small", region ? [`${region} may say it: ${there.join(", ")} `,
-    small(`regions by ${region}`, () => both(region, { [there[0]]: valueOf(["slopes", "angles"])
-      ?? 45 }))] : "none");
+    small(`regions by ${region}`, () => both(region, at => (
+      { [there[0]]: at(["slopes", "angles"]) ?? 45 })))] : "none");
 }
-
 function words(path) {
   const now = valueOf(path) ?? [];
   return amounts(now.map(said => h("span.word", h("code", said === "" ? "an empty cell" : said),
-    small("×", () => set(path, having(now, said, false)), `take ${said || "it"} out`))),
-  entry(idOf(path), "", text => text && set(path, [...now, text]),
+    small("×", () => set(path, at => having(at(path), said, false)), `take ${said || "it"} out`))),
+  entry(idOf(path), "", text => text && set(path, at => [...at(path) ?? [], text]),
     { className: "w9", placeholder: "one more" }));
 }
-
 function chosenRocks(path) {
   const now = valueOf(path);
   return amounts(rocks().map(rock => tick(idOf([...path, rock]), rock, now?.includes(rock) ?? true,
-    is => set(path, having(now ?? rocks(), rock, is)))),
+    is => set(path, at => having(at(path) ?? rocks(), rock, is)))),
   now ? small("all but air", () => set(path, null)) : h("small", "all but air"));
 }
 
@@ -196,8 +197,7 @@ const FORMS = {
   rocks: chosenRocks, formulas: words, words, fill, regions, metals: tables, processes: tables,
 };
 const formOf = (path, key) => (FORMS[key.kind] ?? form)(path, key);
-/** Of each a row with what stands in a line as `init` writes it, and its further keys below.
- * @param {any[]} path @param {Key} list */
+/** Of each a row with what stands in a line as `init` writes it, and its further keys below. */
 function tables(path, { name: list }) {
   const now = valueOf(path) ?? [];
   const isShort = k => k.is_written && ["text", "number", "choice", "column"].includes(k.kind);
@@ -225,11 +225,11 @@ const MILL = { cost: ["economics", "processing"], rocks: ["economics", "mill"],
 function addProcess() {
   const [path, now] = [["economics", "processes"], listNow("processes")];
   const name = free(n => `process ${n}`, now.map(each => each.name), now.length + 1);
-  if (now.length) return set([...path, now.length], { name, cost: now.at(-1).cost });
+  if (now.length) return set([...path, now.length], at => ({ name, cost: at(path).at(-1).cost }));
   const taken = Object.entries(MILL).filter(([, at]) => valueOf(at) !== undefined);
-  const mill = Object.fromEntries(taken.map(([key, at]) => [key, valueOf(at)]));
-  return change({ path, value: [{ name: "mill", ...mill }] },
-    ...taken.map(([, at]) => ({ path: at, value: null })));
+  const mill = at => Object.fromEntries(taken.map(([key, from]) => [key, at(from)]));
+  return change({ path, value: at => [{ name: "mill", ...mill(at) }] },
+    ...taken.map(([, from]) => ({ path: from, value: null })));
 }
 
 /** Adds a metal as `init` writes it: of a column, or the next unused. @param {string} column */
@@ -271,7 +271,6 @@ export function examples() {
     : isExample(valueOf([k.section, k.name]), k) ? [k.label] : []));
   return found.length > 0 && look(`Still examples, and not yours: ${found.join(", ")}.`);
 }
-
 /** Whether an error is of one of the own fields of a table in a list of them. */
 const isOf = (f, section, each, i) => f.key?.length > 3 && f.key[1] === section
   && [each.name, i].includes(f.key[2]);
@@ -342,10 +341,10 @@ export function banner() {
   const isHomeless = f => !f.key?.length || (isHere(f) && !keyOf(...f.key));
   const rest = faults().filter(f => !isHomeless(f));
   const own = rest.find(isHere)?.key;
-  const told = (place, at, all) => all.indexOf(place) === at && look(
+  const errors = (place, at, all) => all.indexOf(place) === at && look(
     counted(all.filter(other => other === place).length, "error"), place === here()
       ? [" below: ", small(keyOf(...own).label, () => toField(...own))]
       : [" on ", h("a", { href: link(D.study.name, place) }, labelOf(place))]);
   return h("div", h("datalist", { id: "columns" }, columns().map(value => h("option", { value }))),
-    faults().filter(isHomeless).map(faultBox), rest.map(f => placeOf(f.key)).map(told));
+    faults().filter(isHomeless).map(faultBox), rest.map(f => placeOf(f.key)).map(errors));
 }

@@ -1,11 +1,9 @@
 // Runs: how far one is, and what it has said, from its events.
 import { amounts, button, card, chip, choice, entry, h, labelled, look, number, table, tick, tip,
   when } from "./dom.js";
-import { D, draw, eventsOf, file, going, keep, start, typed } from "./desk.js";
+import { D, ask, draw, eventsOf, file, going, keep, start, typed } from "./desk.js";
 import { faultBox } from "./fields.js";
-
-/** A button with the commands that it runs. @param {string} id @param {string} label
- * @param {any} asked as asked.py has it @param {{needs?: boolean, main?: boolean}} how */
+/** A button with the commands that it runs. @param {any} asked as button_commands.py has it */
 export function runner(id, label, asked, { needs = false, main = false } = {}) {
   const s = D.study.state;
   const disabled = Boolean(going()) || D.check?.errors?.length > 0
@@ -13,11 +11,9 @@ export function runner(id, label, asked, { needs = false, main = false } = {}) {
   return h("div.runner", button(label, () => start(asked),
     { id, className: main ? "main" : "", disabled }), typed(asked));
 }
-
-/** Boxes to tick, to choose from a list, or to type in. @param {any} own what is chosen
- * @param {Object<string, any>} all of each its words, and a list or attributes of a box */
-export const boxes = (own, all) => amounts(Object.entries(all).map(([key, told]) => {
-  const [label, how, read] = [told].flat();
+/** Boxes to tick, to choose from a list, or to type in. @param {any} own what is chosen */
+export const boxes = (own, all) => amounts(Object.entries(all).map(([key, form]) => {
+  const [label, how, read] = [form].flat();
   if (!how) return tick(key, label, own[key], keep(own, key));
   return labelled(key, label, Array.isArray(how) ? choice(key, how, own[key], keep(own, key, read))
     : entry(key, own[key], keep(own, key, read), { className: "w5", ...how }));
@@ -29,8 +25,7 @@ export const byYears = words => D.study.state.schedule && tick("by.years", words
   keep(by, "schedule"));
 /** @returns {{schedule?: boolean}} what the box adds to what is asked for */
 export const years = () => (by.schedule && D.study.state.schedule ? { schedule: true } : {});
-/** What stands above results that study.toml doesn't give any more, and above a file that the
- * latest run hasn't made. @param {(f: any) => boolean} isOne @returns {any[]} */
+/** Above results that study.toml doesn't give any more, and a file that the latest run lacks. */
 export function before(isOne) {
   const [made] = isOne ? filesOf(isOne) : [];
   const run = D.study.runs.find(each => ["all", "shells"].includes(each.what));
@@ -40,16 +35,10 @@ export function before(isOne) {
   isEarlier && h("p.look.before", { id: "earlier" }, `This is of an earlier run: "${nameOf(run)}"`,
     ` of ${when(run.began)} is ${run.state}, and hasn't made it anew.`)];
 }
-
-/** The rows of a table of pits, with a mark on the best one: that of the price as it is.
- * @param {any} event @returns {(n: number) => Object<string, any>} */
-function best({ names, rows }) {
-  const isOfPits = names[0] === "factor" && names.includes("best case");
-  const found = isOfPits ? rows.findIndex(row => Number(row[0]) === 1) : -1;
-  const mark = { className: "best", title: "the best pit, at the price as it is" };
-  return n => (n === found ? mark : {});
-}
-
+/** The rows of a table of pits, with a mark on the best one: that of the price as it is. */
+const best = ({ names, rows }) => n => (names[0] === "factor" && Number(rows[n][0]) === 1
+  && names.some(name => ["best case", "npv best"].includes(name))
+  ? { className: "best", title: "the best pit, at the price as it is" } : {});
 /** How each event of a run is told. @type {Object<string, (event: any) => any>} */
 const SAID = {
   // what to type next in a terminal stands beside the buttons
@@ -59,7 +48,6 @@ const SAID = {
   error: e => faultBox({ ...e, key: e.key ?? [] }),
   table: e => [h("h3", e.title), table(e.names, e.rows, { className: "tight", rows: best(e) })],
 };
-
 /** @param {{what: string, at: number, of: number}} how */
 export const bar = how => h("progress", { "aria-label": how.what,
   ...(how.of ? { value: how.at, max: how.of } : {}) });
@@ -83,9 +71,8 @@ export const chipOf = ({ state, status }) => chip(state === "done" && status ? "
 export const linesOf = run => run.typed.map(words => h("code.line", words));
 export const logOf = run => h("a", { href: file(`${run.folder}/log`, "?save=1"),
   download: `${run.number}.log` }, "log");
-
 /** What a run has told: each command, and what came of it. @param {any} run */
-function told(run) {
+function story(run) {
   const list = D.events[run.number]?.list;
   if (!list) {
     eventsOf(run.number).then(draw);
@@ -103,22 +90,42 @@ function told(run) {
     run.state === "killed" && tip("Its process was ended from outside. What was done is kept: the",
       " same again goes on from there.")];
 }
-
 /** @param {any} run @param {boolean} isOpen @returns {any} a run in a card */
 function shown(run, isOpen) {
   const head = [h("b", nameOf(run)), " ", chipOf(run), " ", h("span.quiet",
     `by ${run.who}, ${when(run.began)}, ${number(run.seconds, 1)} s `), logOf(run)];
   const old = run.state === "done" && before();
-  if (isOpen) return card(null, h("div.run-head", head), old, told(run));
+  if (isOpen) return card(null, h("div.run-head", head), old, story(run));
   const ontoggle = e => e.target.open && !D.events[run.number] && eventsOf(run.number).then(draw);
   return h("details.card", { ontoggle, id: `run.${run.number}` },
-    h("summary", head, " ", linesOf(run)), D.events[run.number] && told(run));
+    h("summary", head, " ", linesOf(run)), D.events[run.number] && story(run));
 }
-
-/** The runs of some kinds, the latest open. @param {...string} kinds */
+/** Tables in `out`, and what makes them. */
+const MADE = { pit_by_pit: "shells", schedule: "schedule", phases: "phases", vary: "vary",
+  vary_schedule: "vary", risk: "risk", risk_schedule: "risk" };
+const figure = cell => (cell === "" || Number.isNaN(+cell) ? cell : (+cell).toLocaleString("en",
+  { maximumFractionDigits: Math.abs(+cell) < 1e5 ? 3 : 0 })); // of elevations all of them
+const cellsOf = text => text.trim().split("\n").map(line => [...`,${line}`.matchAll(
+  /,(?:"((?:[^"]|"")*)"|([^,]*))/g)].map(([, quoted, bare]) => quoted ?? bare));
+/** A table of `out` that no run of the desk has told. @param {any} f its file */
+function tableOf(f) {
+  const key = fresh(f);
+  if (!D.events[key]) {
+    D.events[key] = { list: [] };
+    ask("GET", key).then(({ ok, errors: [text] }) => ok && keep(D.events, key)({
+      list: cellsOf(text.said) }));
+  }
+  const [names, ...rows] = D.events[key].list;
+  return names && card(null, before(), SAID.table({ title: f.path, rows: rows.map(row => (
+    row.map(figure))), names: names.map(name => name.replaceAll("_", " ")) }));
+}
+/** What was made by a terminal, and the runs of some kinds, the latest open. */
 export function runsOf(...kinds) {
+  const runs = D.study.runs.filter(run => kinds.includes(run.what));
   const isOver = run => run.state === "failed"
     && D.study.runs.some(other => other.state === "done" && other.number > run.number);
-  return D.study.runs.filter(run => kinds.includes(run.what)).slice(0, 20)
-    .map((run, i) => shown(run, i === 0 && !isOver(run)));
+  const isTold = f => runs.some(run => f.when > run.began && f.when < run.began + run.seconds + 1);
+  const tables = filesOf(f => kinds.includes(MADE[f.path.match(/^out\/(\w+)\.csv$/)?.[1]]));
+  return [...tables.filter(f => !isTold(f)).map(tableOf),
+    ...runs.slice(0, 20).map((run, i) => shown(run, i === 0 && !isOver(run)))];
 }

@@ -6,21 +6,17 @@ import { D, agreed, api, ask, byId, draw, faults, file, go, keep, link, queue, s
 import { CALLED, banner, examples, faultBox, fields, mend, set, unused } from "./fields.js";
 import { before, boxes, byYears, chipOf, framed, linesOf, logOf, nameOf, pictures, runner, runsOf,
   years } from "./runs.js";
-
 /** A box to tick for a value of a list. @param {any} one @param {any} own @param {string} key */
 const oneOf = (id, one, own, key, label = one) => tick(id, label, own[key].includes(one),
   keep(own, key, is => having(own[key], one, is)));
-
-/** Takes a file to the server. @param {File} dropped @param {string} path
- * @param {(told: any) => any} then @param {string} how "?over=1" in place of one that is there */
+/** Takes a file to the server. @param {string} how "?over=1" in place of one that is there */
 async function send(dropped, path, then, how = "") {
   const line = say(`${dropped.name}, ${size(dropped.size)}, is on its way`, "on");
-  const told = await ask("PUT", path + how, dropped, { raw: true, quiet: true });
-  D.dropped = told.ok ? null : { ...told, again: () => send(dropped, path, then, "?over=1") };
-  if (told.ok) await then(told);
+  const answer = await ask("PUT", path + how, dropped, { raw: true, quiet: true });
+  D.dropped = answer.ok ? null : { ...answer, again: () => send(dropped, path, then, "?over=1") };
+  if (answer.ok) await then(answer);
   await draw().then(() => line.remove());
 }
-
 /** A place for files. @param {string} words @param {string} ends @param {(f: File) => any} take */
 function dropPlace(words, ends, take) {
   const mark = is => e => void e.currentTarget.classList.toggle("over", is); // false ends a drop
@@ -35,19 +31,17 @@ function dropPlace(words, ends, take) {
   failed && [failed.errors.map(faultBox), failed.exists && button("Put it in its place",
     failed.again, { id: "over" })]];
 }
-
 /** A table in place of one that has a study leads there. @param {File} dropped */
 const taken = dropped => send(dropped, at("api", "tables", dropped.name), () => (
   D.home.studies.some(s => s.name === studyOf(dropped.name))
     ? void (location.hash = link(studyOf(dropped.name))) : begin({ table: dropped.name })));
 const studyOf = table => table.replace(/(\.csv)?(\.gz)?$/i, "");
 async function begin(asked) {
-  const told = await ask("POST", "/api/studies", asked, { quiet: true });
-  D.naming = told.study ? null : { ...asked, ...told };
-  if (told.study) location.hash = link(told.study);
+  const answer = await ask("POST", "/api/studies", asked, { quiet: true });
+  D.naming = answer.study ? null : { ...asked, ...answer };
+  if (answer.study) location.hash = link(answer.study);
   else await go();
 }
-
 /** What the table's columns are, where their names aren't known: at first what looks like it. */
 function naming() {
   const n = D.naming;
@@ -65,7 +59,6 @@ function naming() {
   boxes(n, { ...(n.asks === "encoding" && { encoding: ["encoding", { placeholder: "cp1252" }] }),
     name: ["the study's name", {}] }), button("Go on", goOn, { className: "main", id: "named" }));
 }
-
 const copy = name => ask("POST", "/api/studies", { copy: name }).then(go);
 export function home() {
   const studies = D.home.studies.map(s => [h("a", { href: link(s.name) }, s.name),
@@ -82,7 +75,6 @@ export function home() {
     h("p.quiet", written("home"), D.home.manual && h("a", { href: D.home.manual,
       target: "_blank" }, "The manual"))];
 }
-
 /** @param {string} name @returns {any} a text that stands in the page */
 const written = name => byId(`text.${name}`)?.content.cloneNode(true);
 const MODEL = ["columns", "tonnes", "units", "size", "rotation", "absent", "z"];
@@ -117,7 +109,6 @@ function tableScreen() {
       : card("From above", tip("There is a picture once the table is read.")))),
   seen?.rows && columnsOf(seen)];
 }
-
 /** What is in each column of the table. @param {any} seen as `work.look` tells it */
 const columnsOf = ({ columns, marks }) => card("Columns",
   tip("Least, mean and greatest are of the cells with a number", marks.length > 0
@@ -142,7 +133,6 @@ function money() {
   card("Costs", fields("economics", n => COSTS.includes(n))),
   card("Mill, and what may not be dug", fields("economics", isOther))];
 }
-
 /** The walls as they are asked for and built. @param {any} rose as `work.rose` tells it */
 function walls({ names, rows, said, looks: all }) {
   const heads = names.map(name => name.replace(/^.* (built|error)$/, "$1"));
@@ -165,7 +155,8 @@ function build() {
   const { old } = D.study.state;
   return [banner(), card("Series of pits", fields("shells"),
     factors.length > 0 && tip(`${factors.length} pits, at `, factors.map(f => f / 1000).join(", "),
-      " of the price. Rates are for the discounted cases alone.")), card("Run", old && look(old),
+      " of the price. Rates and the discount are for the discounted cases, and for a plan by years",
+      " that has none of its own.")), card("Run", old && look(old),
     examples(), runner("all", "Build, and find the pits", { what: "all", ...asks }, { main: true }),
     runner("build", "Build", { what: "build" }),
     runner("shells", "Find the pits", { what: "shells", ...asks }, { needs: true }),
@@ -230,7 +221,6 @@ const PARTS = { run: ["Build and find", build], years: ["Plan by years", plan],
   page: ["In three dimensions", page], pictures: ["Pictures", cuts], files: ["Files", files] };
 const pits = (part = "run") => [h("div.tabs", Object.entries(PARTS).map(([key, [label]]) => tab(
   `part.${key}`, ["pits", key], label, key === part))), PARTS[part]?.[1]() ?? ""];
-
 /** What stands in place of a screen that needs pits. */
 const needed = () => (!D.study.state.there || D.study.state.old) && card(null, tip(
   "This needs proved pits: ", h("a", { href: link(D.study.name, "pits") },
@@ -247,8 +237,8 @@ function pushbacks() {
 }
 
 const design = { design: "", as: "surface", factor: 1 };
-const dropped = it => send(it, api("designs", it.name), told => {
-  Object.assign(design, { design: it.name, as: told.as ?? "surface" });
+const dropped = it => send(it, api("designs", it.name), kind => {
+  Object.assign(design, { design: it.name, as: kind.as ?? "surface" });
   if (!D.study.pulse.designs.includes(it.name)) D.study.pulse.designs.push(it.name);
 });
 function designs() {
@@ -267,7 +257,7 @@ const POINTS = "points: from 8 % to 10 % a year are 2";
 const IFS = { price: [-20, 20, "percent", "prices"], recovery: [-5, 5, "percent", "recoveries"],
   mining: [-10, 10, "percent", "costs of digging"], slope: [-3, 3, "degrees", "slope angles"],
   processing: [-10, 10, "percent", "costs of treating"], discount: [-2, 2, POINTS, "discount"],
-  sink: [-1, 1, "benches a year", "how fast a pushback sinks"] };
+  sink: [-1, 1, "benches a year", "how fast a column of blocks sinks"] };
 const chosen = { names: ["price", "recovery", "slope"] };
 function whatIf() {
   const { schedule, risk } = D.study.state;
@@ -299,7 +289,6 @@ function history() {
     "how it ended", ""], rows, { words: 6, className: "runs-of" }) : tip("None yet."),
   tip("Each lies in log/desk of the study, with the study.toml of then."));
 }
-
 /** @param {string} screen @returns {any} what a planner does first on it, until there are pits */
 export function guide(screen) {
   const order = ["table", "money", "slopes", "pits"];
@@ -309,7 +298,6 @@ export function guide(screen) {
   return isOwn && !isBegun && h("p.card.guide", written(screen), then
     && [" Then go on: ", tab("then", [then], screens[then].label, false)]);
 }
-
 /** All screens of a study, in the order of a working day. */
 export const screens = {
   table: { label: "Table", draw: tableScreen }, money: { label: "Prices and costs", draw: money },

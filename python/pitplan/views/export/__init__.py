@@ -1,9 +1,9 @@
-"""Files for other programs."""
+"""Pits and pushbacks as files for CAD, GIS, ParaView, spreadsheets and other optimisers."""
 from __future__ import annotations
 
 from typing import TYPE_CHECKING
 
-from ...base.door import door
+from ...base.public_names import door
 
 if TYPE_CHECKING:
     from . import csv as csv, dxf as dxf, gpkg as gpkg, minelib as minelib

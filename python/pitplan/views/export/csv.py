@@ -12,6 +12,7 @@ import pandas as pd
 from ...base.amounts import THOUSAND, Priced
 from ...base.arrays import Array, Floats
 from ...table.spreadsheets import write_table
+from .columns import columns_of, free
 
 if TYPE_CHECKING:
     from ...study.shells import Shells
@@ -35,15 +36,13 @@ def table_of(
     -------
     DataFrame
         ``id``, ``row`` (of the table, as a spreadsheet counts it; 0 for a block that was added),
-        ``x``, ``y``, ``z`` (the centre; z is an elevation), ``rock``, ``class`` where the table
-        has resource classes, ``tonnes``, ``shell`` (the factor of the first pit that has it, as a
-        share of the price; of pushbacks ``pushback`` and of a schedule ``year``, its number),
-        ``worth`` (at factor 1) and
-        ``to`` (``mill``, or the name of a process where there are some, or ``waste``, at factor 1 or as a schedule sends it; ``forbidden`` for a block that may not be dug,
-        whose worth is what it would be if it might).
+        ``x``, ``y``, ``z`` (the centre; z is an elevation), ``rock``, ``class`` where the table has
+        resource classes, ``tonnes``, ``shell`` (the factor of the first pit that has it, as a share
+        of the price; of pushbacks ``pushback`` and of a schedule ``year``, its number), ``worth``
+        (at factor 1) and ``to`` (``mill``, or the name of a process where there are some, or
+        ``waste``, at factor 1 or as a schedule sends it; ``forbidden`` for a block that may not be
+        dug, whose worth is what it would be if it might).
     """
-    from .vtu import columns_of, free
-
     study, count = shells.study, len(shells.factors)
     kept = np.arange(len(study.model)) if is_whole else np.flatnonzero(shells.dug < count)
     b = study.model.blocks.iloc[kept]

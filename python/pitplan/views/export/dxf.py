@@ -47,7 +47,8 @@ def write(
     Each bench of a pit has its outline twice: in layer ``SHELL_<factor>_TOE`` at the elevation of
     the bench's lower face, and in ``SHELL_<factor>_CREST`` at that of its upper face. A hole, where
     rock stands within the pit, is a closed polyline of its own. Each polyline's extended data under
-    ``PITPLAN`` has the factor or the year, the elevation of the bench's centre, and ``outline`` or ``hole``.
+    ``PITPLAN`` has the factor or the year, the elevation of the bench's centre, and ``outline`` or
+    ``hole``.
 
     Parameters
     ----------

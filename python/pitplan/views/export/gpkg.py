@@ -39,12 +39,13 @@ def write(
     """Writes two layers of polygons in true coordinates, also of a turned model.
 
     ``benches`` has a feature for each pit and bench: ``factor`` (a share of the price; of a
-    schedule ``year``, at whose end the mine is so), ``toe``,
-    ``crest`` (elevations of the bench's faces), ``blocks``, ``area`` (square units of the
-    coordinates), ``volume`` (area times height), ``rock_t`` and ``ore_t`` (in place, ore at factor
-    1; of several processes ``process_<name>_ore_t`` too). ``rims`` has the outline of each pit as seen from above: ``factor`` or ``year``, ``blocks``,
-    ``area``, ``worth`` (text, as `pit` states it; of a year's end what all so far is worth,
-    undiscounted).
+    schedule ``year``, at whose end the mine is so), ``toe``, ``crest`` (elevations of the bench's
+    faces), ``blocks``, ``area`` (square units of the coordinates), ``volume`` (area times height),
+    ``rock_t`` and ``ore_t`` (in place, ore at factor 1; of several processes
+    ``process_<name>_ore_t`` too). ``rims`` has the outline of each pit as seen from above:
+    ``factor`` or ``year``, ``blocks``, ``area``, ``worth`` (at the full price; of a year's end what
+    all so far is worth, undiscounted), and of a pit ``worth_at_factor`` (at its own factor, as `pit`
+    states it). A double holds a worth below 9e13 to the cent.
 
     Parameters
     ----------
@@ -72,7 +73,8 @@ def write(
     system = system_of(crs)
     chosen = list(range(len(shells.factors))) if pits is None else list(pits)
     benches, rims = features(shells, chosen)
-    fields = {**_FIELDS, "benches": (*_FIELDS["benches"], *_of_processes(shells))}
+    more = {"benches": _of_processes(shells), "rims": _of_factor(shells)}
+    fields = {layer: (*names, *more[layer]) for layer, names in _FIELDS.items()}
     with whole_file(path) as part:
         for layer, rows in (("benches", benches), ("rims", rims)):
             frame = geopandas.GeoDataFrame(
@@ -89,6 +91,11 @@ def write(
 def _of_processes(shells: Shells) -> list[str]:
     """The fields of ore by process, where there are several."""
     return [f"process_{name}_ore_t" for name in shells.priced.process_names]
+
+
+def _of_factor(shells: Shells) -> list[str]:
+    """The field of a worth at each pit's own factor, where there are pits by factor."""
+    return ["worth_at_factor"] if shells.by == "factor" else []
 
 
 def system_of(crs: str | None) -> Any:
@@ -164,7 +171,8 @@ def features(
                     shells.by: mark,
                     "blocks": int(held.sum()),
                     "area": float(rim.area) * grid.size[0] * grid.size[1],
-                    "worth": shells.worth(i),
+                    "worth": float(priced.worth_of(shells.holds(i), THOUSAND)),
+                    **{name: float(shells.worth(i)) for name in _of_factor(shells)},
                     "geometry": outlines.placed(rim, grid),
                 }
             )

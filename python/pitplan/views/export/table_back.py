@@ -1,6 +1,7 @@
 """The planner's own table with columns more, byte for byte otherwise."""
 from __future__ import annotations
 
+import codecs
 import gzip
 import io
 from collections.abc import Iterable, Iterator, Mapping
@@ -23,16 +24,16 @@ if TYPE_CHECKING:
 
 _COLUMN = "pit_shell"
 _BLANKS = b" \t\n\r\x0b\x0c"  # what `bytes.strip` takes away
-PIECE = 1 << 22  # bytes of a table that are written at a time
+CHUNK_SIZE = 1 << 22  # bytes of a table that are written at a time
 
 
-def pieces(table: IO[bytes]) -> Iterator[bytes]:
+def pieces(stream: IO[bytes]) -> Iterator[bytes]:
     """Some megabytes of whole records at a time."""
-    while text := table.read(PIECE) + table.readline():
+    while text := stream.read(CHUNK_SIZE) + stream.readline():
         more, is_open = [text], text.count(
             b'"'
         ) % 2 if b'"' in text else 0  # to count takes fifty times as long as to look
-        while is_open and (line := table.readline()):  # a cell in quotes goes on
+        while is_open and (line := stream.readline()):  # a cell in quotes goes on
             more.append(line)
             is_open ^= line.count(b'"') % 2
         yield b"".join(more)
@@ -117,7 +118,9 @@ def write(shells: Shells, target: Path, decimal: str | None = None) -> int:
     return int(np.count_nonzero(shell < len(shells.factors)))
 
 
-def write_columns(study: Study, columns: Mapping[str, Array], target: Path) -> int:
+def write_columns(
+    study: Study, columns: Mapping[str, Array], target: Path, encoding: str | None = None
+) -> int:
     """Writes the study's table again, with columns after the others.
 
     Parameters
@@ -128,6 +131,8 @@ def write_columns(study: Study, columns: Mapping[str, Array], target: Path) -> i
         of each block; nothing is written where it is "" or 0.
     target : Path
         Packed where its name ends in ``.gz``.
+    encoding : str, optional
+        Of the table, in which the cells are written too. Default: UTF-8.
 
     Returns
     -------
@@ -137,7 +142,7 @@ def write_columns(study: Study, columns: Mapping[str, Array], target: Path) -> i
     Raises
     ------
     PlanError
-        As `write`.
+        As `write`, and where the table's encoding has no such letter.
     """
     path, block = unchanged_table(study), study.model.row_block
     kind, words = np.zeros(len(block), np.int64), list[tuple[str, ...]]([()])
@@ -147,7 +152,7 @@ def write_columns(study: Study, columns: Mapping[str, Array], target: Path) -> i
         words = [(*before, str(word) if word else "") for before in old for word in each.tolist()]
     nothing = ("",) * len(columns)
     kind = np.where(block >= 0, kind, len(words))
-    with_columns(path, target, list(columns), [*words, nothing], kind)
+    with_columns(path, target, list(columns), [*words, nothing], kind, encoding)
     return int(np.count_nonzero(np.array([any(each) for each in (*words, nothing)])[kind]))
 
 
@@ -174,16 +179,34 @@ def unchanged_table(study: Study) -> Path:
 
 
 def with_columns(
-    path: Path, target: Path, names: list[str], cells: list[tuple[str, ...]], kind: Array
+    path: Path,
+    target: Path,
+    names: list[str],
+    cells: list[tuple[str, ...]],
+    kind: Array,
+    encoding: str | None = None,
 ) -> None:
-    """Writes a table again with columns more; `kind` says which of the cells each row has, the
-    last ones where it has no more."""
+    """Writes a table again with columns more, in its own encoding; `kind` says which of the cells
+    each row has, the last ones where it has no more."""
     header = head_of(path, "latin-1", 1)[0]
     mark = separator_of(header)
     there = names_of(header, mark)
     head = "".join(mark + _free_name(there, name) for name in names)
-    texts = ["".join(mark + cell for cell in each).encode() for each in cells]
+    texts = [_encoded("".join(mark + cell for cell in each), encoding) for each in cells]
     rewrite(path, target, head.encode(), texts, kind)
+
+
+def _encoded(text: str, encoding: str | None) -> bytes:
+    """Cells as a table in some encoding has them. Raises PlanError where it has no such letter."""
+    name = codecs.lookup(encoding or "utf-8").name
+    try:
+        return text.encode("utf-8" if name == "utf-8-sig" else name)  # whose mark begins a file
+    except UnicodeEncodeError as error:
+        letter = text[error.start]
+        raise PlanError(
+            f"{letter!r} of {text[1:]!r} can't be written in {encoding}, the table's encoding",
+            try_this=f"a name of the process in letters of {encoding}; or the table saved as UTF-8",
+        ) from None
 
 
 def _free_name(names: list[str], wanted: str) -> str:

@@ -11,10 +11,10 @@ import pandas as pd
 
 from ...base.amounts import THOUSAND
 from ...base.arrays import Array, Floats, Indices, Ints
-from ...base.errors import PlanError, meant
+from ...base.errors import PlanError
 from ...base.files import whole_file
-from ...model.model import OURS
 from ...table.spreadsheets import write_table
+from .columns import columns_of, free, yes_or_no
 
 if TYPE_CHECKING:
     from ...model.model import Model
@@ -23,7 +23,6 @@ if TYPE_CHECKING:
 # The corners of a hexahedron in the order of VTK_HEXAHEDRON: the lower face counterclockwise, then
 # the upper one.
 _CORNERS = ((0, 0, 0), (1, 0, 0), (1, 1, 0), (0, 1, 0), (0, 0, 1), (1, 0, 1), (1, 1, 1), (0, 1, 1))
-_OWN = ("block", "shell", "worth")
 _MOST_WORDS = 10_000  # different words of a column that are numbered
 
 
@@ -37,8 +36,8 @@ def write(
 
     Each cell has ``shell`` (the factor of the first pit that has it, as a share of the price; not a
     number where none has; of a schedule ``year``, 0 where none digs it), ``worth`` (at factor 1, in
-    units of currency), ``block`` (its number in `pit`'s files), and the table's columns. A column of TRUE and FALSE has 1 and 0; another one of
-    words is numbered, in the order of the words.
+    units of currency), ``block`` (its number in `pit`'s files), and the table's columns. A column
+    of TRUE and FALSE has 1 and 0; another one of words is numbered, in the order of the words.
 
     Parameters
     ----------
@@ -121,52 +120,6 @@ def hexahedra(model: Model, kept: Ints) -> tuple[Floats, Ints]:
     at = np.flatnonzero(used)
     east, north, up = model.grid.world(at % nx - 0.5, at // nx % ny - 0.5, at // (nx * ny) - 0.5)
     return np.column_stack([east, north, up]), number[key]
-
-
-def columns_of(model: Model, wanted: Sequence[str] | None) -> list[str]:
-    """The columns to write: those that are asked for, or all of numbers, those of TRUE and FALSE,
-    and the rock.
-
-    Raises PlanError where the table has no such column.
-    """
-    there = [str(name) for name in model.blocks.columns]
-    if wanted is None:
-        kinds = model.blocks.dtypes
-        return [
-            name
-            for name in there
-            if name == "rock"
-            or name == "tonnes"
-            or (
-                name not in OURS
-                and (kinds[name].kind in "iufb" or yes_or_no(model.blocks[name]) is not None)
-            )
-        ]
-    for name in wanted:
-        if name not in there:
-            raise PlanError(f"the table has no column {name!r}{meant(name, there)}")
-    return list(dict.fromkeys(wanted))
-
-
-def free(name: str, called: str) -> str:
-    """The name of a column in the file: the table's own, but for names that this package writes
-    itself, one of them what pits are called."""
-    return f"{name} of the table" if name in (*_OWN, called) else name
-
-
-def yes_or_no(values: pd.Series) -> Indices | None:
-    """1 for each TRUE, in any spelling, and 0 for each FALSE or empty cell; None for a column that
-    has another word, or neither."""
-    code, kinds = pd.factorize(values)
-    words = []
-    for kind in kinds:
-        words.append(str(kind).strip().upper())
-        if words[-1] not in ("TRUE", "FALSE", ""):
-            return None
-    if not any(words):
-        return None
-    found: Indices = np.array([*(word == "TRUE" for word in words), False], np.int32)[code]
-    return found
 
 
 def numbered(values: pd.Series, name: str, table: str) -> tuple[Indices, list[str]]:

@@ -3,7 +3,7 @@ from __future__ import annotations
 
 from typing import TYPE_CHECKING
 
-from ...base.door import door
+from ...base.public_names import door
 
 if TYPE_CHECKING:
     from . import pdf as pdf, xlsx as xlsx

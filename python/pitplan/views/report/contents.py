@@ -15,7 +15,7 @@ from ... import __version__
 from ...base.amounts import THOUSAND
 from ...base.digests import sha256
 from ...base.units_shown import alike, factor_text, printed_scale, separated, share_text
-from ...model.tonnage import by_class, by_process, by_rock
+from ...model.grade_tonnage import by_class, by_process, by_rock
 from ...study import edges
 from .. import pictures, slope_rose
 
@@ -35,18 +35,40 @@ _CERTIFIED = "{pits} a certificate that pit check has accepted"
 _STATED = (
     "{pits} as pit shells states {them}, and that program is proved to state none but the best"
 )
-_WIDENED = "Widened pushbacks but the last are no best pits. That the mine keeps the slopes after each was said by pit value when they were cut."
-_CHECKED = (
-    "Each pit's worth was added up again from the table in whole amounts, and is pit's to the last digit; so is its number of blocks.",
-    "Each pit lies within the next.",
-    "The digests in this report are those of the files that pit read; they were taken again before the report was written.",
+_WIDENED = (
+    "Widened pushbacks but the last are no best pits. That the mine keeps the slopes after each"
+    " was said by pit value when they were cut."
 )
-_JUDGED = "The plan by years keeps the slopes and its capacities, as pit schedule says. No plan by these terms is worth more than {currency} {bound:,}: that bound is proved, and the plan is at most {gap} below it."
+_CHECKED = (
+    (
+        "Each pit's worth was added up again from the table in whole amounts, and is pit's to"
+        " the last digit; so is its number of blocks."
+    ),
+    "Each pit lies within the next.",
+    (
+        "The digests in this report are those of the files that pit read; they were taken again"
+        " before the report was written."
+    ),
+)
+_JUDGED = (
+    "The plan by years keeps the slopes and its capacities, as pit schedule says. No plan by"
+    " these terms is worth more than {currency} {bound:,}: that bound is proved, and the plan"
+    " is at most {gap} below it."
+)
 _OPEN = (
-    "Grades, tonnes, prices, costs, recoveries, units and slope angles are what the table and study.toml say. Nothing shows that they are true.",
+    (
+        "Grades, tonnes, prices, costs, recoveries, units and slope angles are what the table"
+        " and study.toml say. Nothing shows that they are true."
+    ),
     "Walls are made of whole blocks, so they are as steep as asked only as nearly as the table of slopes says.",
-    "Discounted worths and years are those of two simple orders, pit after pit and bench after bench. They are no schedule, and aren't proved.",
-    "A pit has no ramps and no least width; berms and ramps are in it only as far as the overall angles leave room for them.",
+    (
+        "Discounted worths and years are those of two simple orders, pit after pit and bench"
+        " after bench. They are no schedule, and aren't proved."
+    ),
+    (
+        "A pit has no ramps and no least width; berms and ramps are in it only as far as the"
+        " overall angles leave room for them."
+    ),
     "Tables and pictures are made by pitplan, in Python, of the proved pits.",
 )
 
@@ -78,7 +100,7 @@ class Column:
 
 
 @dataclass(frozen=True)
-class Table:
+class ReportTable:
     """A table: its name as a sheet has it, what it is, its columns. One that `is_long` is for a
     workbook alone."""
 
@@ -99,7 +121,7 @@ class Report:
         Of the cover.
     asked : str
         The text of study.toml.
-    tables : list of Table
+    tables : list of ReportTable
     pictures : list of (str, Figure)
     walls : list of str
         Of each region how far its walls are from what was asked for, and what its ramp makes of its
@@ -111,13 +133,13 @@ class Report:
     when: str
     facts: list[tuple[str, str]]
     asked: str
-    tables: list[Table]
+    tables: list[ReportTable]
     pictures: list[tuple[str, Figure]]
     walls: list[str]
     proved: list[str]
     unproved: list[str] = field(default_factory=list)
 
-    def table(self, name: str) -> Table:
+    def table(self, name: str) -> ReportTable:
         """The table of a name."""
         return next(table for table in self.tables if table.name == name)
 
@@ -206,13 +228,13 @@ def _facts_of_years(years: Schedule | None) -> list[tuple[str, str]]:
     return [("Plan by years", f"worth {worth} today, at most {years.gap_text} below the best")]
 
 
-def _of_years(found: Schedule) -> list[tuple[Table, Figure]]:
+def _of_years(schedule: Schedule) -> list[tuple[ReportTable, Figure]]:
     """The plan by years, as a table and a picture."""
     from ...schedule.tables import Tables  # these need Numba
     from ..schedule_pictures import by_year
 
-    study = found.shells.study
-    years, currency = Tables(found).years(), study.currency
+    study = schedule.shells.study
+    years, currency = Tables(schedule).years(), study.currency
     columns = [
         Column("Period", "", "count", years["period"].tolist()),
         Column("Year", "", "count", years["year"].tolist()),
@@ -226,8 +248,8 @@ def _of_years(found: Schedule) -> list[tuple[Table, Figure]]:
     ]
     return [
         (
-            Table("Plan by years", "What each period digs, mills and earns", columns),
-            by_year(found, years),
+            ReportTable("Plan by years", "What each period digs, mills and earns", columns),
+            by_year(schedule, years),
         )
     ]
 
@@ -248,7 +270,10 @@ def _facts_of(shells: Shells, table: pd.DataFrame, chosen: int) -> list[tuple[st
             "Pits",
             f"1, at factor {factor_text(shells.factors[0])} of the price"
             if len(shells) == 1
-            else f"{len(shells)}, at factors {factor_text(shells.factors[0])} to {factor_text(shells.factors[-1])} of the price",
+            else (
+                f"{len(shells)}, at factors {factor_text(shells.factors[0])} to"
+                f" {factor_text(shells.factors[-1])} of the price"
+            ),
         ),
         (
             f"Pit at factor {name}",
@@ -272,16 +297,16 @@ def _facts_of(shells: Shells, table: pd.DataFrame, chosen: int) -> list[tuple[st
     return found
 
 
-def _of_rocks(shells: Shells) -> Table:
+def _of_rocks(shells: Shells) -> ReportTable:
     """Grade and tonnage of each rock."""
     study = shells.study
     lines = by_rock(study.model, study.priced, study.manifest["metals"])
     columns = [Column("Rock", "", "text", lines["rock"].tolist())]
     columns += _tonnages(lines, study)
-    return Table("Rocks", "In place, at the full price; metals as recovered", columns)
+    return ReportTable("Rocks", "In place, at the full price; metals as recovered", columns)
 
 
-def of_classes(shells: Shells) -> list[Table]:
+def of_classes(shells: Shells) -> list[ReportTable]:
     """Grade and tonnage of each resource class, in place and of each pit; none where the table has
     no classes."""
     study = shells.study
@@ -296,10 +321,10 @@ def of_classes(shells: Shells) -> list[Table]:
         Column("Class", "", "text", lines["class"].tolist()),
     ]
     columns += _tonnages(lines, study)
-    return [Table("Classes", "Pits by resource class, at the full price", columns)]
+    return [ReportTable("Classes", "Pits by resource class, at the full price", columns)]
 
 
-def of_processes(shells: Shells) -> list[Table]:
+def of_processes(shells: Shells) -> list[ReportTable]:
     """What goes to each process, in place and of each pit; none where there is one."""
     study = shells.study
     if not study.priced.process_names:
@@ -313,7 +338,7 @@ def of_processes(shells: Shells) -> list[Table]:
         Column("To", "", "text", lines["to"].tolist()),
     ]
     columns += _tonnages(lines, study)
-    return [Table("Processes", "Pits by process, at the full price", columns)]
+    return [ReportTable("Processes", "Pits by process, at the full price", columns)]
 
 
 def _tonnages(lines: pd.DataFrame, study: Study) -> list[Column]:
@@ -362,11 +387,11 @@ def _amounts(frame: pd.DataFrame, study: Study) -> list[Column]:
     return found
 
 
-def _of_pits(shells: Shells, table: pd.DataFrame) -> Table:
+def _of_pits(shells: Shells, table: pd.DataFrame) -> ReportTable:
     """Pit by pit."""
     study, currency = shells.study, shells.study.currency
     frame = table.assign(worth=table["worth_at_base"])
-    return Table(
+    return ReportTable(
         "Pit by pit",
         "The proved pit at each factor of the price; worths at the full price, the proved one at the factor's own",
         [
@@ -385,10 +410,10 @@ def _of_pits(shells: Shells, table: pd.DataFrame) -> Table:
     )
 
 
-def _of_shells(shells: Shells) -> Table:
+def _of_shells(shells: Shells) -> ReportTable:
     """What each shell adds on each bench."""
     frame, study = shells.benches(), shells.study
-    return Table(
+    return ReportTable(
         "Bench by shell",
         "What each shell adds on each bench; worths at the full price",
         [
@@ -400,7 +425,7 @@ def _of_shells(shells: Shells) -> Table:
     )
 
 
-def _of_benches(shells: Shells, chosen: int) -> Table:
+def _of_benches(shells: Shells, chosen: int) -> ReportTable:
     """The chosen pit, bench by bench from the top."""
     study, units = shells.study, shells.study.manifest["metals"]
     frame = shells.benches()
@@ -413,9 +438,12 @@ def _of_benches(shells: Shells, chosen: int) -> Table:
     ore = summed["ore_t"].where(summed["ore_t"] > 0)
     for name in units:
         summed[f"grade_{name}"] = summed[f"grade_{name}"] / ore
-    return Table(
+    return ReportTable(
         "Benches",
-        f"The pit at factor {factor_text(shells.factors[chosen])}, bench by bench: elevations of the blocks' centres, worths at the full price",
+        (
+            f"The pit at factor {factor_text(shells.factors[chosen])}, bench by bench:"
+            " elevations of the blocks' centres, worths at the full price"
+        ),
         [
             Column("Bench", study.model.units.length, "length", summed["bench"].tolist()),
             *_amounts(summed, study),
@@ -423,7 +451,7 @@ def _of_benches(shells: Shells, chosen: int) -> Table:
     )
 
 
-def of_phase_classes(phases: Phases) -> list[Table]:
+def of_phase_classes(phases: Phases) -> list[ReportTable]:
     """Grade and tonnage of each resource class, of each pushback; none where the table has no
     classes."""
     study = phases.shells.study
@@ -436,10 +464,10 @@ def of_phase_classes(phases: Phases) -> list[Table]:
         Column("Class", "", "text", lines["class"].tolist()),
     ]
     title = f"Pushbacks by resource class, at the full price; pushbacks {phases.set_name}"
-    return [Table("Pushback classes", title, [*columns, *_tonnages(lines, study)])]
+    return [ReportTable("Pushback classes", title, [*columns, *_tonnages(lines, study)])]
 
 
-def of_phase_processes(phases: Phases) -> list[Table]:
+def of_phase_processes(phases: Phases) -> list[ReportTable]:
     """What goes to each process, of each pushback; none where there is one."""
     study = phases.shells.study
     if not study.priced.process_names:
@@ -451,17 +479,17 @@ def of_phase_processes(phases: Phases) -> list[Table]:
         Column("To", "", "text", lines["to"].tolist()),
     ]
     title = f"Pushbacks by process, at the full price; pushbacks {phases.set_name}"
-    return [Table("Pushback processes", title, [*columns, *_tonnages(lines, study)])]
+    return [ReportTable("Pushback processes", title, [*columns, *_tonnages(lines, study)])]
 
 
-def _of_phases(phases: Phases) -> list[Table]:
+def _of_phases(phases: Phases) -> list[ReportTable]:
     """Pushbacks, and each of them bench by bench."""
     study = phases.shells.study
     unit = study.model.units.length
     benches = phases.benches()
     whole = phases.table(benches=benches)
     return [
-        Table(
+        ReportTable(
             "Pushbacks",
             f"What each pushback digs, worths at the full price; pushbacks {phases.set_text}",
             [
@@ -473,7 +501,7 @@ def _of_phases(phases: Phases) -> list[Table]:
                 Column("Thinnest", unit, "length", whole["width"].tolist()),
             ],
         ),
-        Table(
+        ReportTable(
             "Pushback benches",
             f"Each pushback bench by bench, in the order of digging; pushbacks {phases.set_name}",
             [
@@ -487,10 +515,10 @@ def _of_phases(phases: Phases) -> list[Table]:
     ]
 
 
-def _of_slopes(plan: StudyFile, shells: Shells) -> Table:
+def _of_slopes(plan: StudyFile, shells: Shells) -> ReportTable:
     """The angles of walls, asked and built, by region and bearing."""
     found = plan.slopes.built(shells.study.model.grid)
-    return Table(
+    return ReportTable(
         "Slopes",
         "Overall slope of a deep wall by its bearing from the pit's middle; an error above 0 is steeper than asked",
         [
@@ -504,7 +532,7 @@ def _of_slopes(plan: StudyFile, shells: Shells) -> Table:
     )
 
 
-def _of_digests(plan: StudyFile, shells: Shells) -> Table:
+def _of_digests(plan: StudyFile, shells: Shells) -> ReportTable:
     """sha256 of all that the pits rest on, and of each pit."""
     study = shells.study
     rows = []
@@ -518,7 +546,7 @@ def _of_digests(plan: StudyFile, shells: Shells) -> Table:
         rows.append((f"blocks of the pit at factor {name}", verdict["bits"]))
         if verdict["certificate"]:
             rows.append((f"certificate of the pit at factor {name}", verdict["certificate"]))
-    return Table(
+    return ReportTable(
         "Digests",
         "sha256 of what the pits rest on, and of each pit",
         [

@@ -35,7 +35,7 @@ from ...base.errors import in_a_line
 from ...base.files import whole_file
 from ...base.units_shown import amount_text, factor_text, lengths, scale_of
 from ..page_views import grade_texts, ratio
-from .contents import Column, Report, Table
+from .contents import Column, Report, ReportTable
 
 # matplotlib brings these; a PDF's own fonts have no letters but those of Western Europe
 _FONTS = {
@@ -186,12 +186,12 @@ def _slopes(report: Report) -> list[Any]:
     columns = [
         Column(one.name, one.unit, one.kind, [one.values[i] for i in kept]) for one in table.columns
     ]
-    found = laid(Table(table.name, table.caption, columns))
+    found = laid(ReportTable(table.name, table.caption, columns))
     found += [Spacer(1, 3 * mm), *(Paragraph(_shown(line), _NOTE) for line in report.walls)]
     return [*found, PageBreak(), picture(report.pictures[-1][1], _WIDTH, _HEIGHT - 10 * mm)]
 
 
-def laid(table: Table) -> list[Any]:
+def laid(table: ReportTable) -> list[Any]:
     """A table below its name; in parts below each other where the page has no room for its
     columns."""
     columns = _shown_columns(table.columns)
@@ -220,7 +220,7 @@ def laid(table: Table) -> list[Any]:
     return found
 
 
-def _words_of(table: Table) -> int:
+def _words_of(table: ReportTable) -> int:
     """How many of its first columns say what a row is of: they stand in each part."""
     kinds = [column.kind for column in table.columns]
     return 2 if kinds[:2] == ["factor", "text"] else 1
@@ -304,12 +304,12 @@ def _wrapped(name: str, width: float) -> str:
     return "\n".join(lines)
 
 
-def _parts_of(widths: Sequence[float], words: int = 1) -> list[list[int]]:
-    """The columns of each part of a table; the first, or so many `words`, stand in each."""
-    first, begun = list(range(words)), sum(widths[:words])
+def _parts_of(widths: Sequence[float], word_columns: int = 1) -> list[list[int]]:
+    """The columns of each part of a table; the first, or so many `word_columns`, stand in each."""
+    first, begun = list(range(word_columns)), sum(widths[:word_columns])
     parts, taken = [list(first)], begun
-    for at in range(words, len(widths)):
-        if taken + widths[at] > _WIDTH and len(parts[-1]) > words:
+    for at in range(word_columns, len(widths)):
+        if taken + widths[at] > _WIDTH and len(parts[-1]) > word_columns:
             parts.append(list(first))
             taken = begun
         parts[-1].append(at)

@@ -15,7 +15,7 @@ from openpyxl.utils import get_column_letter
 from ...base.errors import in_a_line
 from ...base.files import whole_file
 from ...base.units_shown import grade_places
-from .contents import Column, Report, Table
+from .contents import Column, Report, ReportTable
 
 _FORMATS = {
     "count": "#,##0",
@@ -88,7 +88,7 @@ def _fill_text(sheet: Any, lines: list[str]) -> None:
     sheet.column_dimensions["A"].width = 120
 
 
-def _fill_table(sheet: Any, table: Table) -> None:
+def _fill_table(sheet: Any, table: ReportTable) -> None:
     """A table: its headings in the first row, so that filters and pivots take it as it is."""
     for at, column in enumerate(table.columns, 1):
         heading = _put(sheet, 1, at, column.heading, True)

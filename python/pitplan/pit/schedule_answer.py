@@ -9,6 +9,7 @@ from ..base.errors import NotAccepted
 _ANSWER = re.compile(
     r"SCHEDULE (\d+) (-?[\d.]+)\nBROKEN (\d+)\n(?:BREAKS \d+ \d+\n)*"
     r"(?:EARLY (\d+)\n(?:WAITS \d+ \d+\n)*)?((?:OVER \d+ \d+ [\d.]+ \d+\n)*)"
+    r"(?:BOUND (-?[\d.]+)\n(?:GAP ([\d.]+)\n)?)?"
 )
 
 
@@ -30,6 +31,10 @@ class Scheduled:
         after the other, or the other never.
     over : tuple of (int, int)
         The resources and periods, both from 0, of which it uses more than there is.
+    bound : str or None
+        What no feasible schedule is worth more than, where a certificate was judged beside it.
+    gap : str or None
+        What that is more than the npv, where it is feasible.
     """
 
     count: int
@@ -37,6 +42,8 @@ class Scheduled:
     broken: int
     early: int
     over: tuple[tuple[int, int], ...]
+    bound: str | None = None
+    gap: str | None = None
 
     @property
     def is_feasible(self) -> bool:
@@ -54,6 +61,6 @@ class Scheduled:
         found = _ANSWER.fullmatch(text)
         if not found:
             raise NotAccepted(f"pit schedule: {text.strip()}", try_this=hint)
-        count, npv, broken, early, over = found.groups()
+        count, npv, broken, early, over, bound, gap = found.groups()
         named = tuple((int(r), int(t)) for r, t in re.findall(r"OVER (\d+) (\d+)", over))
-        return cls(int(count), npv, int(broken), int(early or 0), named)
+        return cls(int(count), npv, int(broken), int(early or 0), named, bound, gap)

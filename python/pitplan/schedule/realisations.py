@@ -15,7 +15,7 @@ import tempfile
 from dataclasses import dataclass, replace
 from decimal import Decimal
 from pathlib import Path
-from typing import TYPE_CHECKING, Any
+from typing import TYPE_CHECKING, Any, NamedTuple
 
 import numpy as np
 import pandas as pd
@@ -56,8 +56,8 @@ _ASKED: dict[str, kept_json.Holds] = {
 
 
 @dataclass(frozen=True)
-class _Asked:
-    """What is to be found.
+class _GivenSchedule:
+    """A schedule, and the terms by which it is held against realisations.
 
     Attributes
     ----------
@@ -87,15 +87,15 @@ def _digest_of(*values: Any) -> str:
 
 def prepare(
     base: Study,
-    found: Schedule,
+    schedule: Schedule,
     values: dict[str, Any],
     rates: dict[str, Any],
     gap: float,
     minutes: float,
 ) -> None:
     """Writes down which schedule is to be held against the realisations, and how long each search
-    may take."""
-    terms = found.production.terms
+    may take. Raises PlanError where the cut-off is by year."""
+    terms = schedule.production.terms
     if terms.is_by_year:
         raise PlanError(
             '[schedule] cutoff = "by year": where a block goes is known once its grade is, and a'
@@ -103,7 +103,7 @@ def prepare(
             try_this='cutoff = "fixed"',
             key=("schedule", "cutoff"),
         )
-    asked = {
+    given = {
         "study": base.key,
         "values": {
             **values,
@@ -114,17 +114,17 @@ def prepare(
         "rates": rates,
         "gap": gap,
         "minutes": minutes,
-        "schedule": hashlib.sha256(found.period.astype("<i4").tobytes()).hexdigest(),
+        "schedule": hashlib.sha256(schedule.period.astype("<i4").tobytes()).hexdigest(),
     }
     folder = base.folder / "risk"
     folder.mkdir(exist_ok=True)
     with whole_file(folder / "schedule.npz") as part:
-        np.savez_compressed(part, period=found.period.astype(np.int16))
+        np.savez_compressed(part, period=schedule.period.astype(np.int16))
     with whole_file(folder / "schedule.json") as part:
-        part.write_text(json.dumps(asked))
+        part.write_text(json.dumps(given))
 
 
-def _asked_of(base: Study) -> _Asked | None:
+def _given_schedule(base: Study) -> _GivenSchedule | None:
     """What was asked for by `prepare` over this very model, None where nothing was."""
     folder, again = base.folder / "risk", command("risk", base.named, "--schedule")
     try:
@@ -139,13 +139,13 @@ def _asked_of(base: Study) -> _Asked | None:
     if found["study"] != base.key or not is_same:
         return None
     limits = (found["gap"], found["minutes"])
-    return _Asked(period, found["values"], found["rates"], *limits, _digest_of(found))
+    return _GivenSchedule(period, found["values"], found["rates"], *limits, _digest_of(found))
 
 
-def tasks(base: Study) -> list[Task]:
+def realised_tasks(base: Study) -> list[Task]:
     """The tasks of the realisations: the pit of each, and a bound of its schedules."""
-    setup, asked = setup_of(base), _asked_of(base)
-    count = len(setup.digests) if setup and asked else 0
+    setup, given = setup_of(base), _given_schedule(base)
+    count = len(setup.digests) if setup and given else 0
     return [Task(REALISED, str(number), (THOUSAND,)) for number in range(count)]
 
 
@@ -154,7 +154,7 @@ def _place(study: Realisation) -> Path:
     return study.place(THOUSAND).parent
 
 
-def _found_of(base: Study, asked: _Asked, number: int) -> dict[str, Any] | None:
+def _found_of(base: Study, schedule: _GivenSchedule, number: int) -> dict[str, Any] | None:
     """What was found under a realisation, None where nothing was by these terms."""
     study = realisation(base, number)
     again = command("task", base.named, str(Task(REALISED, str(number), (THOUSAND,))))
@@ -162,13 +162,13 @@ def _found_of(base: Study, asked: _Asked, number: int) -> dict[str, Any] | None:
         found = kept_json.read(_place(study) / "schedule.json", _FOUND, again)
     except (FileNotFoundError, NotADirectoryError):
         return None
-    return found if found["asked"] == _digest_of(asked.key, study.key) else None
+    return found if found["asked"] == _digest_of(schedule.key, study.key) else None
 
 
 def is_done(base: Study, number: int) -> bool:
     """Whether the task of a realisation is done."""
-    asked = _asked_of(base)
-    return asked is None or _found_of(base, asked, number) is not None
+    given = _given_schedule(base)
+    return given is None or _found_of(base, given, number) is not None
 
 
 def find(base: Study, number: int) -> None:
@@ -182,22 +182,22 @@ def find(base: Study, number: int) -> None:
     """
     from .search import Search
 
-    asked, study = _asked_of(base), realisation(base, number)
-    if asked is None:
+    given, study = _given_schedule(base), realisation(base, number)
+    if given is None:
         raise PlanError(
             "no schedule was asked to be held against realisations",
             try_this=command("risk", base.named, "--schedule"),
         )
     with study.written():
-        made, over = production_under(study, asked)
-        npv = judged(study, made, asked.period)
+        made, over = production_under(study, given)
+        npv = judged(study, made, given.period)
     search = Search(_place(study), made, study.program)
-    search.run(asked.gap / PERCENT, asked.minutes * MINUTE)
+    search.run(given.gap / PERCENT, given.minutes * MINUTE)
     bound = search.found.bound
     if bound is None or search.found.npv is None or Decimal(bound) / MILLION < npv:
         raise Disagreement(f"realisation {number}: the bound is below a schedule's worth")
     found = {
-        "asked": _digest_of(asked.key, study.key),
+        "asked": _digest_of(given.key, study.key),
         "npv": f"{npv:f}",
         "own": f"{Decimal(search.found.npv) / MILLION:f}",
         "bound": f"{Decimal(bound) / MILLION:f}",
@@ -207,22 +207,29 @@ def find(base: Study, number: int) -> None:
         part.write_text(json.dumps(found))
 
 
-def production_under(study: Realisation, asked: _Asked) -> tuple[Production, float]:
-    """The mine of a realisation, whose periods have at least what the schedule uses there; and by
+class _Under(NamedTuple):
+    """The mine of a realisation, whose periods have at least what a schedule uses there; and by
     what share of a rate a period uses more than it, at most."""
-    from .judged import block_uses
+
+    production: Production
+    over: float
+
+
+def production_under(study: Realisation, schedule: _GivenSchedule) -> _Under:
+    """The mine of a realisation for a schedule that was made without knowing its grades."""
+    from .pit_schedule import block_uses
     from .plan import production_for
 
-    made = production_for(Shells(study, [THOUSAND]), asked.values, asked.rates)
-    dug = np.flatnonzero(asked.period >= 0)
+    made = production_for(Shells(study, [THOUSAND]), schedule.values, schedule.rates)
+    dug = np.flatnonzero(schedule.period >= 0)
     used = np.zeros(made.capacities.shape, np.int64)
-    for row, uses in enumerate(block_uses(study, dug)):
-        np.add.at(used[row], asked.period[dug], uses)
+    for row, uses in enumerate(block_uses(study, dug, False)):
+        np.add.at(used[row], schedule.period[dug], uses)
     room: Ints = np.maximum(made.capacities, used)
-    limited = [row for row, told in enumerate(made.terms.capacities) if told]
+    limited = [row for row, limits in enumerate(made.terms.capacities) if limits]
     over = [float((used[row] / np.maximum(made.capacities[row], 1)).max()) - 1 for row in limited]
     terms = replace(made.terms, capacities=tuple(tuple(row) for row in room.tolist()))
-    return replace(made, terms=terms), max(0.0, *over)
+    return _Under(replace(made, terms=terms), max(0.0, *over))
 
 
 def judged(study: Realisation, made: Production, period: Indices) -> Decimal:
@@ -233,7 +240,7 @@ def judged(study: Realisation, made: Production, period: Indices) -> Decimal:
     Disagreement
         Where it isn't feasible, or is worth another amount than what was added up here.
     """
-    from .judged import TEXTS, write_texts
+    from .pit_schedule import TEXTS, write_texts
 
     worth = study.priced.thousandths(THOUSAND) // THOUSAND * int(study.priced.rounding)
     npv, fixed = Decimal(0), Decimal(0)
@@ -244,9 +251,8 @@ def judged(study: Realisation, made: Production, period: Indices) -> Decimal:
         fixed += Decimal(weight) * made.terms.fixed_cost * int(is_open) / MILLION
     dug = replace(made, blocks=np.flatnonzero(period >= 0))
     with tempfile.TemporaryDirectory(prefix=".judged.") as work:
-        write_texts(Path(work), study, dug, period)
-        places = [Path(work) / name for name in TEXTS]
-        said = study.program.schedule(study.files, THOUSAND, *places)
+        mine = write_texts(Path(work), study, dug, period, study.priced.way_of(THOUSAND))
+        said = study.program.schedule(mine, Path(work) / TEXTS[2])
     if not said.is_feasible or Decimal(said.npv) != npv:
         raise Disagreement(
             f"realisation {study.number}: pit schedule says {said.npv},"
@@ -272,9 +278,9 @@ def table(base: Study) -> pd.DataFrame:
     PlanError
         Where one hasn't been found.
     """
-    asked, rows = _asked_of(base), []
-    for task in tasks(base):
-        found = _found_of(base, asked, int(task.name)) if asked else None
+    given, rows = _given_schedule(base), []
+    for task in realised_tasks(base):
+        found = _found_of(base, given, int(task.name)) if given else None
         if found is None:
             raise PlanError(
                 f"nothing was found under realisation {task.name}",

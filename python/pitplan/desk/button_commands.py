@@ -1,7 +1,5 @@
-"""The commands that a button of the desk stands for.
-
-Numbers come as numbers, and names are of files that are there: no word of the browser's is an option, and no shell reads any of them.
-"""
+"""The commands that a button of the desk stands for. Numbers come as numbers, and names are of
+files that are there: no word of the browser's is an option, and no shell reads any of them."""
 from __future__ import annotations
 
 import math
@@ -15,7 +13,7 @@ from ..base.typed_numbers import as_number
 from ..views.export.kinds import KINDS
 from .folder import BUNDLE, DESIGNS, Folder
 
-_Asked = Mapping[str, Any]
+_Fields = Mapping[str, Any]  # what the browser sends with a button, or what is kept of a run
 _VARIED = ("price", "recovery", "mining", "processing", "slope", "discount", "sink")
 _CRS = re.compile(r"(EPSG:\d{4,6})?")
 _CUTS = {"bench": "--bench", "row": "--row", "column": "--column"}
@@ -24,24 +22,24 @@ _Words = list[str]
 
 
 class Commands:
-    """What may be asked for over one study. Of the `runs` before, the latest first, the page keeps the pushbacks and the design
-    that were asked for last."""
+    """What may be asked for over one study. Of the `runs` before, the latest first, the page keeps
+    the pushbacks and the design that were asked for last."""
 
-    def __init__(self, folder: Folder, study: Path, runs: Sequence[_Asked]) -> None:
+    def __init__(self, folder: Folder, study: Path, runs: Sequence[_Fields]) -> None:
         self.folder, self.study, self.runs = folder, study, runs
         self.name = study.name
 
-    def steps(self, asked: _Asked) -> list[_Words]:
-        """The words of each command behind `pitplan`. Raises PlanError where something of it is none that pitplan takes."""
-        what = asked.get("what")
+    def steps(self, fields: _Fields) -> list[_Words]:
+        """The words of each command after `pitplan`. Raises PlanError where one is none of its."""
+        what = fields.get("what")
         try:
-            return [[word, self.name, *words] for word, *words in self._asked(what, asked)]
+            return [[word, self.name, *words] for word, *words in self._words_of(what, fields)]
         except (KeyError, TypeError, ValueError, OverflowError) as error:
             raise PlanError(f"{what}: {error} is missing or wrong") from None
 
-    def _asked(self, what: Any, asked: _Asked) -> list[_Words]:
+    def _words_of(self, what: Any, fields: _Fields) -> list[_Words]:
         """The same without the study, which comes first in each."""
-        pits = [["shells", *_flag("certificates", asked)], self._page(None, None), ["plot"]]
+        pits = [["shells", *_flag("certificates", fields)], self._page(None, None), ["plot"]]
         match what:
             case "build" | "slopes":
                 return [[what]]
@@ -50,45 +48,47 @@ class Commands:
             case "all":
                 return [["build"], *pits]
             case "schedule":
-                return [["schedule", *_numbers(asked, "gap", "minutes", "mining_width")]]
+                return [["schedule", *_numbers(fields, "gap", "minutes", "mining_width")]]
             case "risk":
                 return [["risk", "--schedule"]]
             case "page":
                 page = self._page(self._latest("phases"), self._latest("compare"))
-                return [page + _flag("schedule", asked)]
+                return [page + _flag("schedule", fields)]
             case "phases":
-                cut = ["phases", _shares(asked["factors"]), *_numbers(asked, "mining_width")]
-                return [cut, self._page(asked, self._latest("compare"))]
+                cut = ["phases", _shares(fields["factors"]), *_numbers(fields, "mining_width")]
+                return [cut, self._page(fields, self._latest("compare"))]
             case "compare":
-                kind = "--ids" if asked.get("as") == "ids" else "--surface"
-                words = ["compare", kind, self._design(asked), *_factor(asked)]
-                return [words, self._page(self._latest("phases"), asked)]
+                kind = "--ids" if fields.get("as") == "ids" else "--surface"
+                words = ["compare", kind, self._design(fields), *_factor(fields)]
+                return [words, self._page(self._latest("phases"), fields)]
             case "vary":
-                return [["vary", *_changes(asked), *(_flag("schedule", asked) or _factor(asked))]]
+                return [
+                    ["vary", *_changes(fields), *(_flag("schedule", fields) or _factor(fields))]
+                ]
             case "plot":
-                colour = f"--colour={asked.get('colour') or 'shell'}"
-                return [["plot", _CUTS[asked["cut"]], _number(asked["at"]), colour]]
+                colour = f"--colour={fields.get('colour') or 'shell'}"
+                return [["plot", _CUTS[fields["cut"]], _number(fields["at"]), colour]]
             case "export":
-                more = _flag("corners", asked, "--cut-corners") + _flag("schedule", asked)
-                return [["export", "--to", *_kinds(asked), *more]]
+                more = _flag("corners", fields, "--cut-corners") + _flag("schedule", fields)
+                return [["export", "--to", *_kinds(fields), *more]]
             case "bundle":
                 return [["bundle", self._new_bundle()]]
         raise PlanError(f"the desk has no {what!r}")
 
-    def _design(self, asked: _Asked) -> str:
+    def _design(self, fields: _Fields) -> str:
         """A dropped design, as a planner names it in the desk's folder."""
-        path = self.folder.file(str(asked["design"]), DESIGNS, self.study / "designs")
+        path = self.folder.file(str(fields["design"]), DESIGNS, self.study / "designs")
         if not path.is_file():
             raise PlanError(f"there is no design {path.name}", try_this="drop its file here")
         return f"{self.name}/designs/{path.name}"
 
-    def _page(self, cut: _Asked | None, design: _Asked | None) -> _Words:
+    def _page(self, cut: _Fields | None, design: _Fields | None) -> _Words:
         """The page of the pits, with pushbacks and a design."""
         cuts = ["--phases", _shares(cut["factors"])] if cut else []
         beside = ["--design", self._design(design), *_factor(design)] if design else []
         return ["page", *cuts, *beside]
 
-    def _latest(self, what: str) -> _Asked | None:
+    def _latest(self, what: str) -> _Fields | None:
         """What was asked for last, where that is of the model that stands there."""
         done = [run for run in self.runs if run["state"] == "done"]
         built = max((run["number"] for run in done if run["what"] in _AGAIN), default=0)
@@ -102,9 +102,9 @@ class Commands:
         return f"{self.name}/{BUNDLE}{last + 1:04d}"
 
 
-def _changes(asked: _Asked) -> _Words:
+def _changes(fields: _Fields) -> _Words:
     """What-ifs: each a name, and the least and the greatest change."""
-    changes = asked["changes"]
+    changes = fields["changes"]
     wrong = [name for name, *_ in changes if name not in _VARIED]
     if wrong or not changes:
         said = f"{wrong[0]!r} can't be varied" if wrong else "nothing is changed"
@@ -112,10 +112,10 @@ def _changes(asked: _Asked) -> _Words:
     return [f"{name}={_number(least)}..{_number(most)}" for name, least, most in changes]
 
 
-def _kinds(asked: _Asked) -> _Words:
+def _kinds(fields: _Fields) -> _Words:
     """Kinds of files for CAD, GIS, ParaView and spreadsheets, and their coordinate system."""
-    kinds = [kind for kind in KINDS if kind in asked["kinds"]]
-    crs = str(asked.get("crs") or "")
+    kinds = [kind for kind in KINDS if kind in fields["kinds"]]
+    crs = str(fields.get("crs") or "")
     if not kinds:
         raise PlanError("no kind of file is chosen", try_this=", ".join(KINDS))
     if not _CRS.fullmatch(crs):
@@ -123,20 +123,20 @@ def _kinds(asked: _Asked) -> _Words:
     return [",".join(kinds), *(["--crs", crs] if crs else [])]
 
 
-def _flag(key: str, asked: _Asked, option: str = "") -> _Words:
+def _flag(key: str, fields: _Fields, option: str = "") -> _Words:
     """An option without a value, where it is asked for."""
-    return [option or f"--{key}"] if asked.get(key) is True else []
+    return [option or f"--{key}"] if fields.get(key) is True else []
 
 
-def _numbers(asked: _Asked, *keys: str) -> _Words:
+def _numbers(fields: _Fields, *keys: str) -> _Words:
     """Options with a number, where they are asked for."""
-    told = [(key, asked[key]) for key in keys if asked.get(key) is not None]
-    return [it for key, value in told for it in (f"--{key}".replace("_", "-"), _number(value))]
+    given = [(key, fields[key]) for key in keys if fields.get(key) is not None]
+    return [it for key, value in given for it in (f"--{key}".replace("_", "-"), _number(value))]
 
 
-def _factor(asked: _Asked) -> _Words:
-    """The pit that is meant: at the price as it is, unless another one is told."""
-    return ["--factor", _number(asked.get("factor", 1))]
+def _factor(fields: _Fields) -> _Words:
+    """The pit that is meant: at the price as it is, where no other one is named."""
+    return ["--factor", _number(fields.get("factor", 1))]
 
 
 def _number(value: Any) -> str:

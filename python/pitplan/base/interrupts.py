@@ -3,14 +3,15 @@ collector of garbage, so that a command could go on as if nobody had pressed it.
 from __future__ import annotations
 
 import signal
-import threading
 from collections.abc import Collection, Iterator
 from concurrent.futures import FIRST_COMPLETED, Future, wait
 from typing import TypeVar
 
 _T = TypeVar("_T")
 _LOOK = 0.2  # seconds between two looks for a stop
-_asked = threading.Event()
+# The signals that came: a list, since a handler that takes a lock waits for itself where it is called
+# again within.
+_asked: list[int] = []
 
 
 def hear() -> None:
@@ -21,14 +22,20 @@ def hear() -> None:
 
 
 def stop(number: int, frame: object) -> None:
-    """What a signal that ends the command does. Raises KeyboardInterrupt."""
-    _asked.set()
+    """What a signal that ends the command does. Raises KeyboardInterrupt.
+
+    SIGTERM does so once: of a parent that was killed it comes as often as the parent had threads,
+    and what the first one ends mustn't be disturbed.
+    """
+    _asked.append(number)
+    if number == signal.SIGTERM:
+        signal.signal(number, signal.SIG_IGN)
     raise KeyboardInterrupt
 
 
 def raise_if_asked() -> None:
     """Raises KeyboardInterrupt where such a signal has come."""
-    if _asked.is_set():
+    if _asked:
         raise KeyboardInterrupt
 
 

@@ -1,5 +1,5 @@
-"""The periods that some units of a schedule may be moved to while all others stay, and how many others go with
-each."""
+"""The periods that some units of a schedule may be moved to while all others stay, and how many
+others go with each."""
 from __future__ import annotations
 
 from typing import NamedTuple
@@ -7,11 +7,28 @@ from typing import NamedTuple
 import numpy as np
 
 from ..base.arrays import Bools, Ints
-from .loops import Mine, compiled
+from .compiling import compiled
+from .unit_moves import Mine
+
+
+class Span(NamedTuple):
+    """Periods that follow each other: the first and the last. The number of periods stands for what
+    stays in the ground."""
+
+    begin: int
+    end: int
+
+
+class Freed(NamedTuple):
+    """Units that may be moved, and the periods that they may get."""
+
+    units: Ints
+    span: Span
 
 
 class Ranges(NamedTuple):
-    """The first and the last period of each unit; the number of periods stands for staying in the ground.
+    """The first and the last period of each unit; the number of periods stands for staying in the
+    ground.
 
     Attributes
     ----------
@@ -28,8 +45,8 @@ class Ranges(NamedTuple):
         return found
 
 
-def ranges_of(mine: Mine, period: Ints, order: Ints, asked: tuple[Ints, int, int]) -> Ranges:
-    """The ranges of a schedule whose units stay where they are, but those that are asked for.
+def ranges_of(mine: Mine, period: Ints, order: Ints, freed: Freed) -> Ranges:
+    """The ranges of a schedule whose units stay where they are, but those that are freed.
 
     Parameters
     ----------
@@ -38,20 +55,19 @@ def ranges_of(mine: Mine, period: Ints, order: Ints, asked: tuple[Ints, int, int
         Of a schedule that keeps slopes and sink rate.
     order : int array of shape (units,)
         In which all that a unit rests on comes before it.
-    asked : units, the first and the last period that these may get
-        At most the number of periods, which is to stay.
+    freed : Freed
     """
-    units, begin, end = asked
+    units, span = freed
     low, high = period.copy(), period.copy()
-    low[units], high[units] = np.maximum(begin, mine.earliest[units]), end
+    low[units], high[units] = np.maximum(span.begin, mine.earliest[units]), span.end
     _tighten(mine, order, low, high, len(mine.opening))
     return Ranges(low, high)
 
 
 @compiled
 def _tighten(mine: Mine, order: Ints, low: Ints, high: Ints, never: int) -> None:
-    """Raises each first period to what those leave that the unit rests on, and lowers each last one to what those
-    leave that rest on it."""
+    """Raises each first period to what those leave that the unit rests on, and lowers each last one
+    to what those leave that rest on it."""
     for k in range(len(order)):
         unit = order[k]
         if low[unit] == high[unit]:
@@ -73,20 +89,19 @@ def _tighten(mine: Mine, order: Ints, low: Ints, high: Ints, never: int) -> None
 
 
 @compiled
-def followers(mine: Mine, period: Ints, window: tuple[int, int], most: int) -> Ints:
-    """For each unit of the periods of a window how many units of its period go with it to the period before,
-    itself among them, or if these are fewer to the one after; `most` where there are more, and -1 for units
-    of other periods."""
-    begin, end = window
+def followers(mine: Mine, period: Ints, window: Span, most: int) -> Ints:
+    """For each unit of the periods of a window how many units of its period go with it to the
+    period before, itself among them, or if these are fewer to the one after; `most` where there are
+    more, and -1 for units of other periods."""
     found, mark = np.full(len(period), -1, np.int64), np.full(len(period), -1, np.int64)
     stack = np.empty(len(period), np.int64)
     for unit in range(len(period)):
         now = period[unit]
-        if now < begin or now > end:
+        if now < window.begin or now > window.end:
             continue
         least = most
         for way in range(2):
-            if now == (begin, end)[way]:
+            if now == (window.begin if way == 0 else window.end):
                 continue
             first, others = (mine.first, mine.above) if way == 0 else (mine.on_first, mine.on)
             stack[0], mark[unit], count, done = unit, 2 * unit + way, 1, 0

@@ -26,9 +26,9 @@ from ..pit.process import TOP, found_program
 from ..plans.task_line import Task
 from ..study.study import Study
 from ..base.files import host
-from .task import Tasks, memory_of_task
+from .tasks import Tasks, memory_of_task
 
-_MOST = 1000  # tasks of an array: Slurm takes 1,001 unless its site says otherwise
+_MOST_OF_ARRAY = 1000  # tasks of an array: Slurm takes 1,001 unless its site says otherwise
 SPARE = 1.3  # times the memory that is guessed, asked of the scheduler
 _SLURM = """#!/bin/sh
 #SBATCH --job-name={name}
@@ -46,7 +46,8 @@ exec {command} task . $words
 # cancelled if nobody tells it.
 _STATUS = """#!/bin/sh
 s=$(scontrol -o show job "$1" 2>/dev/null | sed -n 's/.*JobState=\\([A-Z_]*\\).*/\\1/p')
-case "$s" in COMPLETED) echo success;; PENDING|RUNNING|COMPLETING|CONFIGURING|SUSPENDED|REQUEUED) echo running;; *) echo failed;; esac
+case "$s" in COMPLETED) echo success;; PENDING|RUNNING|COMPLETING|CONFIGURING|SUSPENDED|REQUEUED)\
+ echo running;; *) echo failed;; esac
 """
 _SNAKEFILE = """rule all:
     input: expand("{folder}/done/{{i}}", i=range(1, {count} + 1))
@@ -106,8 +107,8 @@ def megabytes(study: Study) -> int:
 
 
 def listed(study: Study, tasks: Sequence[Task]) -> Path:
-    """A new folder ``submit/N`` with the list of tasks, a line each. Raises PlanError where `log` of the
-    study is a file."""
+    """A new folder ``submit/N`` with the list of tasks, a line each. Raises PlanError where `log`
+    of the study is a file."""
     top = study.folder / "submit"
     top.mkdir(exist_ok=True)
     try:
@@ -154,8 +155,8 @@ def submit_slurm(study: Study, tasks: Sequence[Task], limits: Limits = Limits())
         Where sbatch isn't there or refuses, with its words.
     """
     jobs = []
-    for at in range(0, len(tasks), _MOST):
-        part = tasks[at : at + _MOST]
+    for at in range(0, len(tasks), _MOST_OF_ARRAY):
+        part = tasks[at : at + _MOST_OF_ARRAY]
         folder = listed(study, part)
         (folder / "array.sh").write_text(
             slurm_script(study, len(part), f"submit/{folder.name}", limits)
@@ -320,7 +321,7 @@ def run_dask(
     ----------
     client : distributed.Client
     heard : function, optional
-        Is told of each task that is done.
+        Called with each task that is done.
 
     Raises
     ------

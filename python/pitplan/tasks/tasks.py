@@ -16,16 +16,17 @@ import json
 import re
 import time
 from collections.abc import Iterable, Iterator, Sequence
-from contextlib import contextmanager, nullcontext, suppress
+from contextlib import contextmanager, suppress
 from pathlib import Path
 from tempfile import TemporaryDirectory
 from typing import TYPE_CHECKING
 
 from ..base.errors import PlanError
-from ..plans.task_line import BASE, NUMBERED, REALISED, SCHEDULE, Task
-from ..study.study import Study
 from ..base.files import host, mark, sweep
+from ..plans.task_line import BASE, Task
+from ..study.study import Study
 from ..study.workers import memory_of
+from .task_kinds import KINDS
 
 if TYPE_CHECKING:
     from ..pit.program import Pit
@@ -38,9 +39,7 @@ _PROCESS = 200_000_000  # bytes of a process of this package with nothing in it
 
 def done_line(task: Task, count: int) -> str:
     """What is said of a task that is done: how many pits were found for it."""
-    is_schedule = task.kind in (SCHEDULE, REALISED)
-    found = "schedule" if is_schedule else f"{count} pit{'s' * (count > 1)}"
-    return f"{task}: " + (f"{found} found" if count else "done before")
+    return f"{task}: " + (f"{KINDS[task.kind].found(count)} found" if count else "done before")
 
 
 class Tasks:
@@ -56,38 +55,21 @@ class Tasks:
 
     def __init__(self, folder: Path, program: Pit | None = None) -> None:
         self.base = Study(folder, program)
-        self.opened: dict[tuple[str, str], Study] = {(BASE, ""): self.base}
+        self.studies: dict[tuple[str, str], Study] = {(BASE, ""): self.base}
         self.is_verified: set[tuple[str, str]] = set()
 
     def study(self, task: Task) -> Study:
         """The study that a task runs over. Raises PlanError where there is no such scenario or
         realisation."""
-        from ..plans.risk import realisation
-        from ..plans.vary import scenario
-        from ..schedule.what_ifs import study_named
-
         at = (task.kind, task.name) if task.name != BASE else (BASE, "")
-        if at not in self.opened:
-            if task.kind in NUMBERED:
-                self.opened[at] = realisation(self.base, int(task.name))
-            else:
-                named = study_named if task.kind == SCHEDULE else scenario
-                self.opened[at] = named(self.base, task.name)
-        return self.opened[at]
+        if at not in self.studies:
+            self.studies[at] = KINDS[task.kind].study(self.base, task.name)
+        return self.studies[at]
 
     def missing(self, task: Task) -> list[int]:
         """The factors of a task that no verdict over this very model stands for, or no schedule
         that was searched for as long as was asked."""
-        study = self.study(task)
-        if task.kind == SCHEDULE:
-            from ..schedule.what_ifs import is_done
-
-            return [] if is_done(self.base, task.name) else list(task.factors)
-        if task.kind == REALISED:
-            from ..schedule import realised
-
-            return [] if realised.is_done(self.base, int(task.name)) else list(task.factors)
-        return [factor for factor in task.factors if not study.verdict(factor)]
+        return KINDS[task.kind].missing(self.base, self.study(task), task)
 
     def left(self, tasks: Iterable[Task]) -> list[Task]:
         """Those of the tasks that aren't done."""
@@ -102,44 +84,35 @@ class Tasks:
             As `Study.run`; its words are kept in the folder ``log`` until the task is done, for
             `pitplan status`.
         """
-        from ..plans.risk import Realisation
-
-        missing, study = self.missing(task), self.study(task)
+        kind, missing, study = KINDS[task.kind], self.missing(task), self.study(task)
         if missing:
             sweep(study.place(missing[0]).parent)
             try:
                 self.verify(task)
                 with self.begun(task):
-                    with study.written() if isinstance(study, Realisation) else nullcontext():
-                        for factor in missing:
-                            if task.kind != SCHEDULE or not study.verdict(factor):
-                                study.run(factor)
-                    self.schedule(task)
+                    with kind.written(study):
+                        for factor in kind.pits(study, missing):
+                            study.run(factor)
+                    kind.finish(self.base, task.name)
             except (PlanError, OSError, MemoryError) as error:
                 self.keep_words(task, str(error) or "memory was refused")
                 raise
             finally:
-                if isinstance(study, Realisation):
-                    study.forget()
+                kind.forget(study)
         with suppress(NotADirectoryError):  # where log is a file
             self.note(task).unlink(missing_ok=True)
         return len(missing)
 
     def place(self, task: Task) -> Path:
         """The folder in which a folder of its own shows that a task is being done: that of its
-        pits, or of its schedule, since tasks that change terms alone share their pits."""
-        from ..schedule.what_ifs import place
-
-        folder = self.study(task).place(task.factors[0]).parent
-        if task.kind == SCHEDULE:
-            return place(self.base, task.name) / "runs" / "schedule"
-        return folder / "runs" / "schedule" if task.kind == REALISED else folder
+        pits, or of its schedule."""
+        return KINDS[task.kind].place(self.base, self.study(task), task)
 
     @contextmanager
     def begun(self, task: Task) -> Iterator[None]:
         """Leaves a folder while a schedule is searched for, as a run of `pit` has one of its own:
         by it `status` knows that the task runs, or was ended."""
-        if task.kind not in (SCHEDULE, REALISED):
+        if not KINDS[task.kind].leaves_a_folder:
             yield
             return
         folder = self.place(task)
@@ -147,15 +120,6 @@ class Tasks:
         sweep(folder)
         with TemporaryDirectory(prefix=f".f{task.factors[0]:05d}.{mark()}", dir=folder):
             yield
-
-    def schedule(self, task: Task) -> None:
-        """Searches for the schedule of a task that asks for one."""
-        from ..schedule import realised, what_ifs
-
-        if task.kind == SCHEDULE:
-            what_ifs.find(self.base, task.name)
-        if task.kind == REALISED:
-            realised.find(self.base, int(task.name))
 
     def verify(self, task: Task) -> None:
         """Takes the digests of the files that a task reads, once in a process."""
@@ -193,13 +157,4 @@ def memory_by_size(blocks: int, pairs: int) -> int:
 def wanted(study: Study, factors: Sequence[int]) -> list[Task]:
     """All tasks of a study: its own factors, its what-ifs, and its realisations, of those that were
     asked for."""
-    from ..plans import risk, vary
-    from ..schedule import realised, what_ifs
-
-    return [
-        *(Task("run", BASE, (factor,)) for factor in factors),
-        *vary.tasks(study),
-        *risk.tasks(study),
-        *what_ifs.tasks(study),
-        *realised.tasks(study),
-    ]
+    return [task for kind in KINDS.values() for task in kind.wanted(study, factors)]

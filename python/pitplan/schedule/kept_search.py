@@ -6,8 +6,11 @@ prices or rates, is never read.
 """
 from __future__ import annotations
 
+import gzip
+import hashlib
 import json
 import shutil
+import zlib
 from dataclasses import asdict, dataclass
 from pathlib import Path
 from typing import Any
@@ -18,9 +21,9 @@ import numpy as np
 from ..base import kept_json
 from ..base.arrays import Array
 from ..base.files import made_whole, sweep, whole_file
-from .ends import KINDS, End
+from .search_ends import KINDS, End
 from .production import Production
-from .sending import Timetable
+from .destinations import Timetable
 
 _BOUND: dict[str, kept_json.Holds] = {
     "production": kept_json.is_digest,
@@ -30,21 +33,32 @@ _BOUND: dict[str, kept_json.Holds] = {
     "closures": kept_json.is_count,
     "pit": kept_json.is_list(kept_json.is_word),
 }
+_SCRATCH = (".bound.*", ".closures.*", ".judged.*")  # folders that a killed search leaves
+_PIECE = 1 << 20  # bytes of a certificate that are read at a time
+# what NumPy, zip and gzip say of files that are cut off or have other bytes
+_UNREADABLE = (
+    OSError,
+    ValueError,
+    KeyError,
+    EOFError,
+    RuntimeError,
+    BadZipFile,
+    zlib.error,
+)
 
 
 @dataclass(frozen=True)
 class Bound:
-    """A bound that `pit bound` or `pit check` accepted.
+    """A bound that `pit bound` accepted.
 
     Attributes
     ----------
     production : str
         The digest of the production that it is of.
     said : str
-        What `pit bound` says; else what the richest pit of the expanded mine is worth, as `pit check`
-        says.
+        What `pit bound` says.
     multipliers : list of lists of int
-        As `Expanded` takes them: without them what was said is no bound.
+        As `Relaxed` has them: without them what was said is no bound.
     certificate : str
         The sha256 of the certificate.
     closures : int
@@ -59,6 +73,23 @@ class Bound:
     certificate: str
     closures: int
     pit: list[str]
+
+
+def _refuse_other(packed: Path, digest: str, again: str) -> None:
+    """Refuses a packed certificate that isn't the one with this digest. Raises Damaged."""
+    found = hashlib.sha256()
+    try:
+        with gzip.open(packed) as file:
+            while piece := file.read(_PIECE):
+                found.update(piece)
+    except FileNotFoundError:
+        raise kept_json.Damaged(f"{packed} is gone", try_this=again) from None
+    except _UNREADABLE as error:
+        raise kept_json.Damaged(f"{packed} is damaged: {error}", try_this=again) from None
+    if found.hexdigest() != digest:
+        raise kept_json.Damaged(
+            f"{packed} is damaged: it isn't the certificate that was kept", try_this=again
+        )
 
 
 class Kept:
@@ -76,33 +107,47 @@ class Kept:
         self.folder = folder / "runs" / "schedule"
         self.production = production
         self.folder.mkdir(parents=True, exist_ok=True)
-        sweep(self.folder, ".bound.*")
+        for names in _SCRATCH:
+            sweep(self.folder, names)
+
+    @property
+    def certificate(self) -> Path:
+        """The certificate of the best bound."""
+        return self.folder / "bound" / "bound.cert.gz"
 
     def bound(self) -> Bound | None:
-        """The best bound, where there is one of this production."""
+        """The best bound, where there is one of this production. Raises Damaged where its file or
+        its certificate is."""
         place = self.folder / "bound"
+        again = f"rm -r {place}: the next search finds a bound anew"
         try:
-            found = kept_json.read(place / "bound.json", _BOUND, f"rm -r {self.folder}")
+            found = kept_json.read(place / "bound.json", _BOUND, again)
         except (FileNotFoundError, NotADirectoryError):
+            if place.is_dir():  # it is put there whole
+                raise kept_json.Damaged(f"{place}/bound.json is gone", try_this=again) from None
             return None
         shape = self.production.capacities.shape
         bound = Bound(**{name: found[name] for name in _BOUND})
         is_whole = len(bound.multipliers) == shape[0] and all(
             len(row) == shape[1] for row in bound.multipliers
         )
-        return bound if bound.production == self.production.key and is_whole else None
+        if bound.production != self.production.key or not is_whole:
+            return None
+        _refuse_other(self.certificate, bound.certificate, again)
+        return bound
 
     def keep_bound(self, bound: Bound, certificate: Path) -> None:
         """Keeps a bound and its certificate, in place of the one before."""
         with made_whole(self.folder / "bound") as work:
             (work / "bound.json").write_text(json.dumps(asdict(bound), indent=1))
-            shutil.copyfile(certificate, work / "bound.cert.gz")
+            shutil.copyfile(certificate, work / self.certificate.name)
 
     def end(self) -> End | None:
         """Why the last search ended, where it was of this production."""
         kinds = {"production": kept_json.is_digest, **KINDS}
         try:
-            found = kept_json.read(self.folder / "end.json", kinds, f"rm -r {self.folder}")
+            path = self.folder / "end.json"
+            found = kept_json.read(path, kinds, f"rm {path}")
         except (FileNotFoundError, NotADirectoryError):
             return None
         is_own = found["production"] == self.production.key
@@ -114,12 +159,24 @@ class Kept:
             part.write_text(json.dumps({"production": self.production.key} | asdict(end)))
 
     def arrays(self, name: str) -> dict[str, Array]:
-        """The arrays that were kept under a name, none where they aren't of this production."""
+        """The arrays that were kept under a name, none where they aren't of this production, or can't
+        be read: those beside the schedule are made anew, and nothing is lost."""
         try:
-            with np.load(self.folder / f"{name}.npz", allow_pickle=False) as file:
-                found: dict[str, Any] = {key: file[key] for key in file.files}
-        except (OSError, ValueError, KeyError, EOFError, BadZipFile):
+            return self.whole_arrays(name)
+        except kept_json.Damaged:
             return {}
+
+    def whole_arrays(self, name: str) -> dict[str, Array]:
+        """As `arrays`. Raises Damaged where they are there and can't be read."""
+        path = self.folder / f"{name}.npz"
+        try:
+            with np.load(path, allow_pickle=False) as file:
+                found: dict[str, Any] = {key: file[key] for key in file.files}
+        except (FileNotFoundError, NotADirectoryError):
+            return {}
+        except _UNREADABLE as error:
+            again = f"rm -r {self.folder / 'bound'} {path}: the next search begins anew"
+            raise kept_json.Damaged(f"{path} is damaged: {error}", try_this=again) from None
         if str(found.pop("production", "")) != self.production.key:
             return {}
         return found
@@ -130,8 +187,12 @@ class Kept:
             np.savez_compressed(part, production=np.array(self.production.key), **arrays)
 
     def schedule(self) -> Timetable | None:
-        """The best schedule, where there is one of this production that is feasible."""
-        found = self.arrays("schedule")
+        """The best schedule, where there is one of this production that is feasible. Raises Damaged
+        where its file is, or isn't there beside a bound, which comes after a schedule."""
+        found, path = self.whole_arrays("schedule"), self.folder / "schedule.npz"
+        if not path.exists() and self.bound():
+            again = f"rm -r {self.folder / 'bound'}: the next search begins anew"
+            raise kept_json.Damaged(f"{path} is gone", try_this=again)
         period, sent = found.get("period"), found.get("sent")
         units, millable = self.production.units, len(self.production.millable.block)
         if period is None or period.shape != (units,) or period.dtype.kind not in "iu":

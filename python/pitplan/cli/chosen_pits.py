@@ -1,4 +1,5 @@
-"""Factors and designs that a planner names on the command line, and their pits."""
+"""Factors and designs that a planner names on the command line, and their pits; the schedule that was
+found last."""
 from __future__ import annotations
 
 from collections.abc import Sequence
@@ -10,12 +11,15 @@ from ..base.next_command import command
 from ..base.units_shown import share_text
 from ..study.shells import Shells, series_of, thousandths
 from ..study.study import Study
-from .console import err, open_study, say
+from ..study.workers import workers_for
+from .console import described, err, open_study, say, shells_of, show_schedule
+from .progress import pits_shown
 
 if TYPE_CHECKING:
     from ..plans.compare import Comparison
     from ..plans.design import Design
     from ..plans.phases import Phases
+    from ..schedule.plan import Schedule
 
 
 def shares_of(text: str) -> list[int]:
@@ -74,6 +78,41 @@ def pushbacks_at(folder: Path, factors: str) -> Phases:
     return found
 
 
+def with_certificates(shells: Shells) -> Shells:
+    """The same pits with their certificates; a bar shows how far those are that are made now."""
+    left = [verdict["factor"] for verdict in shells.verdicts if not verdict["certificate"]]
+    if not left:
+        return shells
+    count = workers_for(shells.study)
+    with pits_shown(left, count) as listener:
+        return shells.with_certificates(
+            count,
+            lambda factor, what, share: listener(factor, what, share) if factor in left else None,
+        )
+
+
+def last_schedule(folder: Path) -> Schedule:
+    """The schedule that was found last by the terms of study.toml.
+
+    Raises
+    ------
+    PlanError
+        Where none was.
+    """
+    from ..schedule.plan import Schedule
+
+    plan = described(folder)
+    shells, rates = shells_of(folder)
+    found = Schedule.last(shells, plan.values["schedule"], rates)
+    if found is None:
+        raise PlanError(
+            "no schedule by the terms of study.toml has been found",
+            try_this=command("schedule", folder),
+        )
+    show_schedule(shells.study, found.digest)
+    return found
+
+
 class DesignOptions(NamedTuple):
     """The options that name a design: one of a file of ids, of a surface, of either, and a
     column."""
@@ -98,7 +137,7 @@ def design_of(study: Study, options: DesignOptions, encoding: str | None) -> Des
 
     ids, surface, file, column, value, layers = options
     is_surface = surface or file and file.suffix.lower() == ".dxf"
-    with err.status("the design is read"):
+    with err.long_step("the design is read"):
         model = study.model if is_surface else with_sub_blocks(study)
         if ids:
             return by_ids_of(model, ids, encoding)
@@ -123,10 +162,8 @@ def beside(study: Study, design: Design, factor: float) -> Comparison:
     if not study.verdict(wanted):
         raise _not_run(study, wanted)
     if not study.certified(wanted):
-        from .shells import with_certificates
-
         with_certificates(Shells(study, [wanted]))
-    with err.status("pit value reads the design"):
+    with err.long_step("pit value reads the design"):
         return compare(study, design, wanted)
 
 

@@ -7,8 +7,8 @@ from __future__ import annotations
 
 import math
 import re
-from collections.abc import Iterator, Mapping, Sequence
-from typing import Any, Protocol
+from collections.abc import Iterable, Iterator, Mapping, Sequence
+from typing import Any, Optional, Protocol
 
 import numpy as np
 
@@ -23,9 +23,9 @@ from ..model.economics import Economics, Metal
 from ..model.grid import Grid
 from ..model.model import Model, TableKeys
 from .pit_by_pit import YEARS
-from .plausible import strange
+from .strange_worths import strange
 from ..table.column_names import AIR, columns_with, misnamed, said_of_misnamed
-from ..table.parts_of_blocks import is_part, remedy_of_part
+from ..table.share_columns import is_part, remedy_of_part
 from ..table.study_keys import METALS, PROCESSES
 from ..table.value_kinds import has_ramp
 from ..slopes.offsets import MEAN, WORST, Outline, Pattern
@@ -44,6 +44,7 @@ _EVERYWHERE = 0.95  # the share of the rock from which on a formula keeps nearly
 _TIMES_USUAL = 8  # how many times a metal's usual price a price may be, or its share
 _LEAST_SELLING, _MOST_SELLING = 5e-4, 0.6  # of the price
 _LONGEST, _SHORTEST = 200, 0.01  # years that a mine takes
+_DEAREST = 0.3  # a year, that a mine's money is discounted by
 # currencies in which a metal's usual price is about its number
 _DOLLARS = re.compile(r"[A-Z]{0,3}\$|USD|AUD|CAD|EUR|GBP|€|£")
 _DEPTHS = ("depth", "prof", "profundidad", "profundidade", "profondeur", "tiefe", "teufe")
@@ -88,6 +89,10 @@ class _Says(Protocol):
     def rates(self) -> Mapping[str, float]:
         ...
 
+    @property
+    def values(self) -> Mapping[str, Mapping[str, Any]]:
+        ...
+
 
 def looks(model: Model, priced: Priced, plan: _Says) -> list[Strange]:
     """All that looks wrong of a model and of what its blocks bring."""
@@ -108,6 +113,7 @@ def looks(model: Model, priced: Priced, plan: _Says) -> list[Strange]:
         *_of_prices(plan.economics),
         *_of_selling(plan.economics),
         *of_rates(model, priced, plan.rates),
+        *_of_schedule_rates(model, priced, plan.values["schedule"]),
         *_of_forbid(priced, rock),
         *_of_regions(model, plan.slopes),
         *_of_bearings(plan.slopes),
@@ -437,7 +443,16 @@ def _of_selling(economics: Economics) -> Iterator[Strange]:
 
 
 def of_rates(model: Model, priced: Priced, rates: Mapping[str, Any]) -> Iterator[Strange]:
-    """Rates that are swapped, or by which the mine takes centuries or days."""
+    """Rates that are swapped, or by which the mine takes centuries or days; and a discount of which
+    the point may be a place off."""
+    discount = rates.get("discount")
+    if discount and discount > _DEAREST:
+        yield Strange(
+            f"discount = {discount:g} is {100 * discount:g} % a year",
+            "it is a share, and few mines count with more than 20 %",
+            f"discount = {discount / 10:g} in [shells], if {10 * discount:g} % is meant",
+            ("shells", "discount"),
+        )
     tonnes = model.blocks.tonnes.to_numpy(float)
     dug, treated = rates.get("mining_rate"), rates.get("mill_rate")
     feeds = [float(each.sum()) for each in priced.feeds_of(tonnes, THOUSAND)]
@@ -449,7 +464,7 @@ def of_rates(model: Model, priced: Priced, rates: Mapping[str, Any]) -> Iterator
             "mining_rate and mill_rate in [shells], the other way round",
             ("shells", "mill_rate"),
         )
-    asked: list[tuple[str, float | None, float, str, KeyPath]] = [
+    asked: list[_Rate] = [
         ("rock", dug, float(tonnes.sum()), "mining_rate in [shells]", ("shells", "mining_rate"))
     ]
     if not of_processes:
@@ -457,7 +472,7 @@ def of_rates(model: Model, priced: Priced, rates: Mapping[str, Any]) -> Iterator
         asked.append(("ore", treated, ore, "mill_rate in [shells]", ("shells", "mill_rate")))
     for (name, rate), feed in zip(of_processes, feeds):
         key: KeyPath = ("economics", PROCESSES, name, "rate")
-        if rate is None and any(told for _, told in of_processes):
+        if rate is None and any(other for _, other in of_processes):
             yield Strange(
                 f"{name} has no rate: the discounted cases take its feed of the largest pit in"
                 f" {YEARS} years, and the plan by years has no limit for it",
@@ -466,13 +481,38 @@ def of_rates(model: Model, priced: Priced, rates: Mapping[str, Any]) -> Iterator
                 key,
             )
         asked.append((f"feed of {name}", rate, feed, f"rate of process {name}", key))
-    for what, rate, amount, said, key in asked:
-        years = amount / rate if rate else 1.0
-        if amount and not _SHORTEST <= years <= _LONGEST:
+    yield from _of_long_or_short(asked)
+
+
+def _of_schedule_rates(model: Model, priced: Priced, terms: Mapping[str, Any]) -> Iterator[Strange]:
+    """Rates of [schedule] by which the mine takes centuries or days, as of one typed in millions of
+    tonnes: of rates by year the largest is looked at."""
+    tonnes = model.blocks.tonnes.to_numpy(float)
+    feeds = [float(each.sum()) for each in priced.feeds_of(tonnes, THOUSAND)]
+    names, told = priced.process_names, terms.get("process_rates") or {}
+    asked = [("rock", terms.get("mining_rate"), float(tonnes.sum()), "mining_rate")]
+    if names:
+        of_feeds = zip(names, feeds)
+        asked += [(f"feed of {n}", told.get(n), feed, "process_rates") for n, feed in of_feeds]
+    else:
+        asked.append(("ore", terms.get("mill_rate"), feeds[0], "mill_rate"))
+    yield from _of_long_or_short(
+        (what, rate and float(np.max(rate)), amount, f"{name} in [schedule]", ("schedule", name))
+        for what, rate, amount, name in asked
+    )
+
+
+_Rate = tuple[str, Optional[float], float, str, KeyPath]  # of what, its tonnes, words, key
+
+
+def _of_long_or_short(rates: Iterable[_Rate]) -> Iterator[Strange]:
+    """Rates by which tonnes of the whole model take centuries or days."""
+    for what, rate, amount, said, key in rates:
+        if rate and amount and not _SHORTEST <= amount / rate <= _LONGEST:
             yield Strange(
                 (
                     f"at {rounded(rate, 6)} tonnes a year the {what} of the whole model takes"
-                    f" {rounded(years)} years"
+                    f" {rounded(amount / rate)} years"
                 ),
                 "a mine takes some tens of years",
                 f"{said} in tonnes a year, as 4e6",
@@ -547,8 +587,14 @@ def of_ramps(slopes: Slopes, unit: str) -> Iterator[Strange]:
         most = ramp.height / ramp.grade / least
         if ramp.passes > 1 and turn < least:
             yield Strange(
-                f"{called} passes {ramp.passes:.3g} times over {length_text(ramp.height)} {unit}, so a turn of it is {length_text(round(turn, 1))} {unit} long",
-                f"a ramp {ramp.width:g} {unit} wide turns round in no less than {least:,.0f} {unit}, which makes at most {max(most, 1):.2g} passes",
+                (
+                    f"{called} passes {ramp.passes:.3g} times over {length_text(ramp.height)}"
+                    f" {unit}, so a turn of it is {length_text(round(turn, 1))} {unit} long"
+                ),
+                (
+                    f"a ramp {ramp.width:g} {unit} wide turns round in no less than"
+                    f" {least:,.0f} {unit}, which makes at most {max(most, 1):.2g} passes"
+                ),
                 "turns and height of the wall in [slopes] ramp",
                 key,
             )
@@ -559,7 +605,11 @@ def of_ramps(slopes: Slopes, unit: str) -> Iterator[Strange]:
             wide = ramp.height / math.tan(math.radians(angle))
             if ramp.passes * ramp.width > wide:
                 yield Strange(
-                    f"{called} takes {ramp.passes * ramp.width:,.0f} {unit} of a wall that is {wide:,.0f} {unit} wide without it, and makes {ramp.overall(angle):.1f} degrees of {angle:g}",
+                    (
+                        f"{called} takes {ramp.passes * ramp.width:,.0f} {unit} of a wall that"
+                        f" is {wide:,.0f} {unit} wide without it, and makes"
+                        f" {ramp.overall(angle):.1f} degrees of {angle:g}"
+                    ),
                     "a ramp takes less room than the rock between its passes",
                     "width, turns and height in [slopes] ramp",
                     key,
@@ -595,7 +645,7 @@ def _not_held(name: str, pattern: Pattern, levels: int | None) -> str:
         + (f"; they are too steep by most {steepest}" if is_steep else "")
     )
     hint = (
-        "more levels in [slopes], or none told"
+        "more levels in [slopes], or leave levels out"
         if levels
         else "angles that change less from bearing to bearing, or lower blocks"
     )

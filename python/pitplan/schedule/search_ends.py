@@ -1,11 +1,14 @@
-"""Why a search for a schedule ended."""
+"""When a search for a schedule has to end, and why it ended."""
 from __future__ import annotations
 
 from dataclasses import dataclass
-from typing import Any
+from typing import TYPE_CHECKING, Any, NamedTuple
 
 from ..base import kept_json
 from ..base.units_shown import counted
+
+if TYPE_CHECKING:
+    from .search import Found
 
 GAP, MINUTES, ROUNDS, ALL, STOPPED, KILLED = (
     "gap reached",
@@ -22,6 +25,29 @@ KINDS: dict[str, kept_json.Holds] = {
     "seconds": kept_json.is_number,
     "rounds": kept_json.is_count,
 }
+
+
+class SearchStopped(KeyboardInterrupt):
+    """A search was stopped, with what it had found kept.
+
+    Parameters
+    ----------
+    found : Found
+        How far it was.
+    digest : str
+        Of its best schedule, as `Schedule.digest`; empty where it had none.
+    """
+
+    def __init__(self, found: Found, digest: str) -> None:
+        super().__init__(found, digest)
+        self.found, self.digest = found, digest
+
+
+class Limits(NamedTuple):
+    """When a search ends: at a gap, as a share (0.001 is 0.1 %), or after so many seconds."""
+
+    gap: float
+    seconds: float
 
 
 @dataclass(frozen=True)

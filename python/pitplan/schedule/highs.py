@@ -1,0 +1,244 @@
+"""HiGHS in processes of their own, called as programs over shares from 0 to 1: within this one no
+ctrl-C would be heard before it is done. Arrays go by pipes between this process and those that it
+has started, without pickles."""
+from __future__ import annotations
+
+import io
+import json
+import os
+import shutil
+import struct
+import subprocess
+import sys
+import threading
+import zipfile
+from contextlib import suppress
+from dataclasses import dataclass
+from pathlib import Path
+from typing import IO, Any, NamedTuple
+
+import numpy as np
+from scipy.sparse import csr_matrix
+
+from ..base.arrays import Floats
+from ..base.errors import MachineError
+from ..base.interrupts import raise_if_asked
+
+_PACKAGE = str(Path(__file__).resolve().parents[2])  # the folder that has pitplan
+_CODE = f"import sys; sys.path.insert(0, {_PACKAGE!r}); from pitplan.schedule.highs import serve; serve()"
+_LENGTH = struct.Struct("<Q")  # of what follows, in bytes
+_LOCK = threading.Lock()
+_idle: list[_Solver] = []
+_busy: set[_Solver] = set()
+
+
+@dataclass
+class Answer:
+    """What HiGHS gives.
+
+    Attributes
+    ----------
+    status : int
+        SciPy's: 0 for the best, 1 at a limit, and others.
+    message : str
+        The same in words.
+    shares : Floats or None
+        The shares, None where it has found none.
+    prices : Floats
+        What a unit more of each limit is worth; of a program of whole shares none.
+    """
+
+    status: int
+    message: str
+    shares: Floats | None
+    prices: Floats
+
+
+def milp(gains: Floats, table: Any, limits: Floats, **options: float) -> Answer:
+    """The whole shares of most gain, each 0 or 1, of which the table's sums stay within limits.
+
+    Parameters
+    ----------
+    gains : Floats
+        A gain for each share.
+    table : sparse array
+        A row for each limit, a column for each share.
+    limits : Floats
+        What no row's sum is more than.
+    options : float
+        Those of `scipy.optimize.milp`.
+
+    Raises
+    ------
+    MachineError
+        Where its process was ended, as where memory is short.
+    KeyboardInterrupt
+        Where it was ended by `stop` after ctrl-C.
+    """
+    return _solved({"options": options}, gains, table, limits)
+
+
+def linprog(gains: Floats, table: Any, limits: Floats, method: str, **options: float) -> Answer:
+    """Likewise of shares that may be parts, by a method of `scipy.optimize.linprog`."""
+    return _solved({"method": method, "options": options}, gains, table, limits)
+
+
+def begin(count: int) -> None:
+    """Starts so many processes, where there aren't as many. They end with the thread that starts them:
+    the main one starts those that others use."""
+    with _LOCK:
+        _idle[:] = [each for each in _idle if each.run.poll() is None]
+        while len(_idle) < count:
+            _idle.append(_Solver())
+
+
+def stop() -> None:
+    """Ends all that is being solved."""
+    with _LOCK:
+        for each in _busy:
+            each.run.kill()
+
+
+def _send(to: IO[bytes], words: dict[str, Any], **arrays: Any) -> None:
+    """Writes words and arrays into a pipe."""
+    text = io.BytesIO()
+    np.savez(text, words=np.frombuffer(json.dumps(words).encode(), np.uint8), **arrays)
+    to.write(_LENGTH.pack(text.tell()) + text.getbuffer())
+    to.flush()
+
+
+class _Message(NamedTuple):
+    """Words and arrays that went through a pipe."""
+
+    words: dict[str, Any]
+    arrays: Any
+
+
+def _receive(pipe: IO[bytes]) -> _Message:
+    """The next words and arrays of a pipe. Raises EOFError where there are none, or they end early."""
+    before = pipe.read(_LENGTH.size)
+    if len(before) < _LENGTH.size:
+        raise EOFError
+    text = pipe.read(_LENGTH.unpack(before)[0])
+    try:
+        arrays = np.load(io.BytesIO(text), allow_pickle=False)
+        return _Message(json.loads(arrays["words"].tobytes()), arrays)
+    except (ValueError, zipfile.BadZipFile):
+        raise EOFError from None
+
+
+class _Solver:
+    """A process that solves one program after the other, and ends when this one does."""
+
+    def __init__(self) -> None:
+        setpriv = shutil.which("setpriv")
+        before = [setpriv, "--pdeathsig", "KILL", "--"] if setpriv else []
+        try:
+            self.run = subprocess.Popen(
+                [*before, sys.executable, "-I", "-c", _CODE],
+                stdin=subprocess.PIPE,
+                stdout=subprocess.PIPE,
+                process_group=0,  # ctrl-C is for this process, which ends it
+            )
+        except OSError as error:
+            raise MachineError(f"no process for HiGHS can be started: {error.strerror}") from None
+
+    def answer(self, words: dict[str, Any], gains: Floats, table: Any, limits: Floats) -> Answer:
+        """What it gives. Raises EOFError and OSError where it was ended."""
+        assert self.run.stdin and self.run.stdout
+        rows = csr_matrix(table)
+        _send(
+            self.run.stdin,
+            words | {"shape": rows.shape},
+            gains=gains,
+            data=rows.data,
+            indices=rows.indices,
+            indptr=rows.indptr,
+            limits=limits,
+        )
+        found, arrays = _receive(self.run.stdout)
+        if "error" in found:
+            raise RuntimeError(found["error"])
+        shares = arrays["shares"] if found["has_shares"] else None
+        return Answer(found["status"], found["message"], shares, arrays["prices"])
+
+    def end(self) -> None:
+        """Ends it, whatever it does."""
+        self.run.kill()
+        with suppress(OSError):  # what it wasn't given any more
+            self.run.communicate()
+
+
+def _solved(words: dict[str, Any], gains: Floats, table: Any, limits: Floats) -> Answer:
+    """What a process gives, which is free for others then; one that gave nothing is ended."""
+    begin(1)
+    with _LOCK:
+        raise_if_asked()
+        process = _idle.pop() if _idle else _Solver()
+        _busy.add(process)
+    try:
+        found = process.answer(words, gains, table, limits)
+    except BaseException as error:
+        process.end()
+        if not isinstance(error, (EOFError, OSError)):
+            raise
+        raise_if_asked()
+        raise MachineError(
+            "the process of HiGHS was ended: memory was short, or somebody ended it",
+            try_this="the same command, which goes on; or a machine with more memory",
+        ) from None
+    finally:
+        with _LOCK:
+            _busy.discard(process)
+    with _LOCK:
+        _idle.append(process)
+    return found
+
+
+def _found(words: dict[str, Any], arrays: Any) -> Any:
+    """What SciPy gives of a program that came by a pipe."""
+    from scipy import optimize
+
+    gains, limits = arrays["gains"], arrays["limits"]
+    parts = (arrays["data"], arrays["indices"], arrays["indptr"])
+    table = csr_matrix(parts, tuple(words["shape"]))
+    if "method" in words:
+        return optimize.linprog(
+            -gains,
+            A_ub=table,
+            b_ub=limits,
+            bounds=(0, 1),
+            method=words["method"],
+            options=words["options"],
+        )
+    return optimize.milp(
+        -gains,
+        constraints=optimize.LinearConstraint(table, -np.inf, limits),
+        bounds=optimize.Bounds(0, 1),
+        integrality=np.ones(len(gains)),
+        options=words["options"],
+    )
+
+
+def serve() -> None:
+    """In such a process: solves what comes, until nothing more does."""
+    answers = os.fdopen(os.dup(sys.stdout.fileno()), "wb")
+    os.dup2(sys.stderr.fileno(), sys.stdout.fileno())  # what HiGHS prints is no answer
+    with suppress(EOFError, BrokenPipeError):
+        while True:
+            words, arrays = _receive(sys.stdin.buffer)
+            try:
+                found = _found(words, arrays)
+            except Exception as error:
+                _send(answers, {"error": f"{type(error).__name__}: {error}"})
+                continue
+            has_shares = found.x is not None
+            has_prices = "method" in words and found.status == 0
+            prices = -found.ineqlin.marginals if has_prices else []
+            said = {"status": int(found.status), "message": found.message}
+            _send(
+                answers,
+                said | {"has_shares": has_shares},
+                shares=found.x if has_shares else [],
+                prices=prices,
+            )
