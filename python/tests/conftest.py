@@ -25,26 +25,26 @@ settings.load_profile("gate")
 
 # The files that take longest come first, so that none of them is left to one processor at the end.
 LONGEST = (
-    "test_page.py",
-    "test_help_texts.py",
-    "test_planning_md.py",
-    "test_engines.py",
-    "test_bundle.py",
-    "test_risk.py",
+    "views/test_page.py",
+    "cli/test_help_texts.py",
+    "cli/test_planning_md.py",
+    "tasks/test_clusters.py",
+    "audit/test_bundle.py",
+    "plans/test_risk.py",
 )
 
 
 @pytest.hookimpl(tryfirst=True)
 def pytest_runtest_setup(item):
-    """Tables of processes are as wide as off a terminal: readline, which a debugger loads, sets a width that processes inherit,
-    and that os.environ doesn't show."""
+    """Tables of processes are as wide as off a terminal: readline, which a debugger loads, sets a
+    width that processes inherit, and that os.environ doesn't show."""
     for name in ("COLUMNS", "LINES"):
         os.environ.pop(name, None)
         os.unsetenv(name)
 
 
 def pytest_collection_modifyitems(items):
-    items.sort(key=lambda item: item.path.name not in LONGEST)
+    items.sort(key=lambda item: not item.path.as_posix().endswith(LONGEST))
 
 
 @pytest.fixture(scope="session", autouse=True)

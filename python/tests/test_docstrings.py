@@ -11,7 +11,8 @@ LONGEST = 4  # lines of a function that may go without a word
 
 
 def public():
-    """Functions of modules and methods of classes, without those within others, and without names that begin with _."""
+    """Functions of modules and methods of classes, without those within others, and without names
+    that begin with _."""
     for path in FILES:
         tree = ast.parse(path.read_text())
         for owner in (tree, *(node for node in tree.body if isinstance(node, ast.ClassDef))):

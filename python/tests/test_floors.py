@@ -1,4 +1,5 @@
-"""The floors of the package: a module imports from its own package and from those below it alone, also for types. Tests keep the same folders."""
+"""The floors of the package: a module imports from its own package and from those below it alone,
+also for types. Tests keep the same folders."""
 import ast
 import re
 from pathlib import Path
@@ -47,12 +48,45 @@ def test_every_module_has_a_floor():
     assert here == {"__init__.py", "__main__.py", "py.typed", *FLOORS}
 
 
-def test_the_map_names_every_module():
-    page = (PACKAGE.parent / "README.md").read_text()
+def listed(page):
+    """The modules that the map lists, by package: those of its tables, and above these the commands."""
     lists = page.partition("## Every module")[2].partition("\n## ")[0]
-    named = {name.rsplit("/")[-1] for name in re.findall(r"`([\w/]+)`", lists)}
-    there = {path.stem for path in PACKAGE.rglob("*.py")} - {"__init__", "__main__"}
-    assert not there - named
+    commands, *tables = lists.split("\n| `")
+    found = {f"cli/{name}" for name in re.findall(r"`(\w+)`", commands)}
+    for line in tables:
+        name, _, rest = line.partition("`")
+        if rest.partition("\n")[2].startswith("|---"):
+            package = name
+        else:
+            found.add(f"{package}/{name}")
+    return found
+
+
+def test_the_map_lists_every_module_under_its_package():
+    there = {path.relative_to(PACKAGE).with_suffix("") for path in PACKAGE.rglob("*/*.py")}
+    modules = {path.as_posix() for path in there if path.name != "__init__"}
+    found = listed((PACKAGE.parent / "README.md").read_text())
+    assert modules - found == set()
+    assert found - modules == {"cli/cli"}  # the package, which the sentence on commands names
+
+
+def neighbours(path):
+    """The modules of its own package that a module imports, or imports from."""
+    for node in ast.walk(ast.parse(path.read_text())):
+        if isinstance(node, ast.ImportFrom) and node.level == 1:
+            yield from [node.module] if node.module else [name.name for name in node.names]
+
+
+def test_no_command_imports_from_the_module_of_another():
+    """What two commands need is in a module that is shared, as the map has it."""
+    page = (PACKAGE.parent / "README.md").read_text()
+    row = next(line for line in page.splitlines() if line.startswith("| `cli` | The"))
+    shared = set(re.findall(r"`(\w+)`", row)) - {"cli"}
+    modules = {path.stem: path for path in (PACKAGE / "cli").glob("*.py") if path.stem[0] != "_"}
+    commands = {name for name, path in modules.items() if "\n@app.command()" in path.read_text()}
+    assert set(modules) - shared == commands
+    wrong = [(name, it) for name in modules for it in neighbours(modules[name]) if it in commands]
+    assert not wrong, wrong
 
 
 def test_no_test_imports_another():

@@ -1,4 +1,5 @@
-"""The manual's site in a browser, from files: its search finds pages, and each result leads to a page with the word."""
+"""The manual's site in a browser, from files: its search finds pages, and each result leads to a
+page with the word."""
 import subprocess
 import sys
 import time

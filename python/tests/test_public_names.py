@@ -2,6 +2,7 @@
 import ast
 import re
 import sys
+from collections import defaultdict
 from pathlib import Path
 
 import pytest
@@ -13,6 +14,7 @@ sys.path.insert(0, str(TOP / "tools"))
 from manual import REFERENCE  # noqa: E402
 
 PROGRAMS = {"recheck", "plainly", "recheck_schedule"}  # of one file, which an auditor runs
+PARTICIPLES = ("asked", "found", "given", "said", "told")  # which may be anything
 USERS = ("python", "tools", "tests", "bench", "examples", "docs")
 
 
@@ -88,6 +90,45 @@ def test_a_name_that_its_own_module_alone_uses_has_an_underscore(trees):
 
 
 def test_a_name_without_one_is_seen(trees):
-    path = PACKAGE / "base" / "folding.py"
+    path = PACKAGE / "base" / "narrow_tables.py"
     more = ast.parse(path.read_text() + "SPARE = 3\ndef left_over(): ...\n")
-    assert list(lonely({**trees, path: more})) == ["base.folding.SPARE", "base.folding.left_over"]
+    assert list(lonely({**trees, path: more})) == [
+        "base.narrow_tables.SPARE",
+        "base.narrow_tables.left_over",
+    ]
+
+
+def parameters():
+    """The parameters of the package that have a type, each with its file and the type as it stands."""
+    for path in PACKAGE.rglob("*.py"):
+        for node in ast.walk(ast.parse(path.read_text())):
+            if isinstance(node, ast.arg) and node.annotation:
+                yield path, node.arg, ast.unparse(node.annotation)
+
+
+def test_a_parameter_is_named_after_what_it_is():
+    """`found` says nothing where its type has a name of its own."""
+    wrong = []
+    for path, name, of in parameters():
+        own = ("Any", "Mapping", name.capitalize())
+        if name in PARTICIPLES and of[:1].isupper() and re.match(r"\w+", of)[0] not in own:
+            wrong.append(f"{path.name}: {name}: {of}")
+    assert wrong == []
+
+
+def types():
+    """The types of the parameters of a name, by the name."""
+    found = defaultdict(set)
+    for _, name, of in parameters():
+        found[name].add(of)
+    return found
+
+
+def test_a_participle_is_a_parameter_of_two_types_at_most():
+    """What holds anything that was asked for, found, given, said or told is named after that."""
+    assert {name: of for name, of in types().items() if name in PARTICIPLES and len(of) > 2} == {}
+
+
+def test_a_parameter_s_name_is_of_few_types():
+    """A name that may be anything says nothing; twelve types are as many as rich has for one."""
+    assert {name: len(of) for name, of in types().items() if len(of) > 12} == {}

@@ -6,7 +6,7 @@ import sys
 from pathlib import Path
 
 PYTHON = Path(__file__).resolve().parents[1]
-LINES, ARGUMENTS = 60, 6
+LINES, ARGUMENTS, COLUMNS = 60, 6, 120
 
 
 def test_mypy_is_content():
@@ -33,14 +33,32 @@ def functions():
 def length(node):
     """Lines of a function without its docstring."""
     first = node.body[0]
-    is_told = (
+    has_docstring = (
         isinstance(first, ast.Expr)
         and isinstance(first.value, ast.Constant)
         and isinstance(first.value.value, str)
     )
     return (
-        node.end_lineno - node.lineno + 1 - (first.end_lineno - first.lineno + 1 if is_told else 0)
+        node.end_lineno
+        - node.lineno
+        + 1
+        - (first.end_lineno - first.lineno + 1 if has_docstring else 0)
     )
+
+
+def wide(text):
+    """The numbers of the lines that are too wide and can be broken: more than one word stands there."""
+    for number, line in enumerate(text.splitlines(), 1):
+        if len(line) > COLUMNS and len(line.split()) > 1:
+            yield number
+
+
+def test_lines_are_no_wider_than_a_screen():
+    """black leaves texts as wide as they are; strings one after another make one."""
+    files = sorted((PYTHON / "pitplan").rglob("*.py"))
+    found = {str(path.relative_to(PYTHON)): list(wide(path.read_text())) for path in files}
+    assert not {name: numbers for name, numbers in found.items() if numbers}
+    assert list(wide("\n".join(["a" * 120, "a " * 61, "a" * 121]))) == [2]
 
 
 def test_functions_are_short():

@@ -1,4 +1,5 @@
-"""The wheel of pitplan is installed beside Debian's packages, and what it installs works without this repository."""
+"""The wheel of pitplan is installed beside Debian's packages, and what it installs works without
+this repository."""
 import os
 import subprocess
 import sys
@@ -76,11 +77,11 @@ def test_it_works_where_it_is_installed(installed):
     from pitplan import __version__
 
     assert said(installed, "--version") == (0, f"pitplan {__version__}\n")
-    status, told = said(installed, "doctor")
-    assert status == 0, told
-    assert f"in {installed}/lib" in told, told
-    assert told.endswith("all is well\n"), told
-    status, told = said(
+    status, text = said(installed, "doctor")
+    assert status == 0, text
+    assert f"in {installed}/lib" in text, text
+    assert text.endswith("all is well\n"), text
+    status, text = said(
         installed, _PITPLAN_COMPLETE="complete_bash", COMP_WORDS="pitplan she", COMP_CWORD="1"
     )
-    assert told.split() == ["shells"], told
+    assert text.split() == ["shells"], text

@@ -1,4 +1,5 @@
-"""A bundle of a study with several processes holds, and whatever is changed of where blocks go is found, with digests made again."""
+"""A bundle of a study with several processes holds, and whatever is changed of where blocks go is
+found, with digests made again."""
 import csv
 import hashlib
 import json
@@ -107,7 +108,7 @@ def one_way(folder):
         (of_toml("mining = 2.0", "mining = 2.0\nprocessing = 9"), "processing beside them"),
         (of_model(lambda row: [*row[:7], row[5], *row[8:]]), "what each block brings and costs"),
         (of_model(lambda row: [*row[:4], *row[6:8], *row[4:6], *row[8:]]), "brings and costs"),
-        (one_way, "what each block brings and costs"),
+        (one_way, "names other columns of mine.blocks than pitplan writes"),
         (of_cell("pit_by_pit.csv", "process_leach_ore_t", lambda v: v + 9), "pit_by_pit.csv"),
         (of_cell("pit_by_pit.csv", "process_mill_metal_gold", lambda v: v + 9), "pit_by_pit.csv"),
         (of_cell("pit_by_pit.csv", "process_leach_feed_t", lambda v: v * 1.05), "pit_by_pit.csv"),

@@ -95,7 +95,8 @@ def test_a_package_that_is_missing_is_named_with_its_command(monkeypatch, name, 
 
 
 def test_what_it_looks_for_is_what_is_installed():
-    """Each package that python/packages lists for pitplan itself is one that the doctor looks for, and each that it needs is listed."""
+    """Each package that python/packages lists for pitplan itself is one that the doctor looks for,
+    and each that it needs is listed."""
     listed = (TOP / "python" / "packages").read_text().split("# its tests")[0]
     names = {line.strip() for line in listed.splitlines() if line.startswith("python3-")}
     assert set(doctor.NEEDED.values()) <= names

@@ -1,4 +1,5 @@
-"""plainly.py and `pit check` share no line, and agree: on the cases of tests/cases/check, and on certificates with planted faults."""
+"""plainly.py and `pit check` share no line, and agree: on the cases of tests/cases/check, and on
+certificates with planted faults."""
 import os
 import random
 import re
@@ -65,7 +66,8 @@ def test_there_are_cases():
 
 
 def changed(lines, r):
-    """A certificate with one fault: a line gone, doubled or moved, a number or a word that is another, or bytes cut off."""
+    """A certificate with one fault: a line gone, doubled or moved, a number or a word that is
+    another, or bytes cut off."""
     lines = list(lines)
     at = r.randrange(len(lines))
     words = lines[at].split(" ")
@@ -155,9 +157,9 @@ def test_predecessors_are_those_at_the_offsets_of_a_block_s_own_region(tmp_path)
     """Block by block, by a plain search; and pair by pair."""
     slopes = pp.Slopes(45, by="SECTOR", regions={"EAST": 32}, levels=3)
     study = mines.study_of(tmp_path, mines.table(6, 5, 4, 8), slopes)
-    told = plainly.Settings(str(study.settings_file))
-    blocks = plainly.Blocks(str(study.blocks_file), told.columns, told.region)
-    above, wanted = plainly.Above(blocks, told), mines.predecessors(study.where)
+    settings = plainly.Settings(str(study.settings_file))
+    blocks = plainly.Blocks(str(study.blocks_file), settings.columns, settings.region)
+    above, wanted = plainly.Above(blocks, settings), mines.predecessors(study.where)
     assert [list(above.of(block)) for block in range(len(wanted))] == wanted
     for block, on in enumerate(wanted):
         assert [other for other in range(len(wanted)) if above.has(block, other)] == on

@@ -1,5 +1,6 @@
-"""Mistakes that people make with schedules, each planted in the files of one, in its tables or in what is kept of it, and
-refused: by `pit schedule --best`, by the checker that a bundle brings along, or by the checks of this package."""
+"""Mistakes that people make with schedules, each planted in the files of one, in its tables or in
+what is kept of it, and refused: by `pit schedule --best`, by the checker that a bundle brings
+along, or by the checks of this package."""
 import gzip
 import json
 import re
@@ -13,14 +14,13 @@ import pytest
 from pitplan import Disagreement, PlanError, Study
 from pitplan.audit import recheck_schedule
 from pitplan.audit.bundle import write_bundle
-from pitplan.pit.program import Periodic, Pit, Texts
+from pitplan.pit.program import Pit
 from pitplan.schedule import Schedule
-from pitplan.schedule.judged import judged
-from pitplan.schedule.kept import Kept
-from pitplan.schedule.periods_text import periods_text
+from pitplan.schedule.pit_schedule import judged
+from pitplan.schedule.kept_search import Kept
 from pitplan.schedule.production import Production
 from pitplan.schedule.search import Search
-from pitplan.schedule.sending import Timetable
+from pitplan.schedule.destinations import Timetable
 from pitplan.schedule.unit_texts import UnitTexts
 from pitplan.study.study_file import read_study_file
 from tiny_mines import TinyMine
@@ -39,21 +39,18 @@ fixed_cost = 1e5
 """
 
 
-RIGHT = {name: getattr(Production, name) for name in ("blocks_sent", "of_blocks")}
+RIGHT = {name: getattr(Production, name) for name in ("ways_chosen", "of_blocks")}
 
 
 @pytest.fixture(scope="module")
 def files(tmp_path_factory):
-    """What `pit schedule --best` reads of the schedule of a tiny mine, which digs in two periods or more."""
+    """What `pit schedule --best` reads of the schedule of a tiny mine, which digs in two periods or
+    more."""
     folder = tmp_path_factory.mktemp("files")
     made = TinyMine(2).production
     search = Search(folder / "search", made, Pit())
     search.run(0.0, 1e9)
-    mine = Periodic(
-        Texts(folder / "m.prec", folder / "m.upit"), folder / "m.blocks", folder / "p.toml"
-    )
-    UnitTexts(made).write(mine)
-    mine.periods.write_text(periods_text(made, np.array(search.bound.multipliers)))
+    UnitTexts(made).mine(Pit(), folder, np.array(search.bound.multipliers))
     certificate = (search.kept.folder / "bound" / "bound.cert.gz").read_bytes()
     (folder / "bound.cert").write_bytes(gzip.decompress(certificate))
     dug = np.flatnonzero(search.plan.period < made.periods)
@@ -66,7 +63,8 @@ def files(tmp_path_factory):
 
 def said_by_pit(folder):
     """What it says, where that is a yes; else what it says instead."""
-    words = "--prec m.prec --upit m.upit --uses m.blocks --periods p.toml --best bound.cert s.txt"
+    words = "--prec units.prec --blocks units.blocks --settings units.toml --uses units.blocks"
+    words += " --periods periods.toml --best bound.cert s.txt"
     paths = [word if word.startswith("--") else folder / word for word in words.split()]
     try:
         return Pit().run(["schedule", *paths])
@@ -97,15 +95,15 @@ def of_rows(name, key, change):
 
 
 def worths(change):
-    """The worths of all blocks."""
+    """What all blocks cost less what they bring."""
 
     def changed(text):
-        head, rows = text.split("OBJECTIVE_FUNCTION:\n")
-        pairs = [row.split() for row in rows.splitlines() if row != "EOF"]
-        body = "".join(f"{b} {change(int(worth))}\n" for b, worth in pairs)
-        return f"{head}OBJECTIVE_FUNCTION:\n{body}EOF\n"
+        rows = [row.split() for row in text.splitlines()]
+        return "".join(
+            " ".join([*row[:6], str(change(int(row[6]))), *row[7:]]) + "\n" for row in rows
+        )
 
-    return of_text("m.upit", changed)
+    return of_text("units.blocks", changed)
 
 
 def first_year(text):
@@ -117,7 +115,7 @@ def first_year(text):
 
 def without_top(folder):
     """A block of the top bench, on which others rest, is left out."""
-    resting = {int(w) for row in open(folder / "m.prec") for w in row.split()[2:]}
+    resting = {int(w) for row in open(folder / "units.prec") for w in row.split()[2:]}
     rows = (folder / "s.txt").read_text().splitlines(keepends=True)
     gone = next(row for row in rows if int(row.split()[0]) in resting)
     (folder / "s.txt").write_text("".join(row for row in rows if row != gone))
@@ -130,9 +128,9 @@ def without_top(folder):
         pytest.param(without_top, "BROKEN [1-9]", id="what is above was forgotten"),
         pytest.param(of_text("s.txt", lambda t: t + t.splitlines()[0] + "\n"), "fault: schedule", id="dug twice"),
         pytest.param(of_text("s.txt", lambda t: re.sub(r" \d+\n$", " 99\n", t)), "fault: schedule", id="in a year that isn't there"),
-        pytest.param(of_rows("p.toml", "capacities", lambda r: [[v // 3 for v in row] for row in r]), "OVER", id="a third of the rates"),
-        pytest.param(of_rows("p.toml", "multipliers", lambda r: [[-v - 1 for v in row] for row in r]), "fault: periods", id="a multiplier's sign"),
-        pytest.param(of_rows("p.toml", "weights", lambda r: [r[0], *r[:-1]]), "REFUSED", id="weights of the year before"),
+        pytest.param(of_rows("periods.toml", "capacities", lambda r: [[v // 3 for v in row] for row in r]), "OVER", id="a third of the rates"),
+        pytest.param(of_rows("periods.toml", "multipliers", lambda r: [[-v - 1 for v in row] for row in r]), "fault: periods", id="a multiplier's sign"),
+        pytest.param(of_rows("periods.toml", "weights", lambda r: [r[0], *r[:-1]]), "REFUSED", id="weights of the year before"),
         pytest.param(worths(lambda v: v * 11 // 10), "REFUSED", id="a stale bound after prices rose"),
         pytest.param(worths(lambda v: v * 9 // 10), "REFUSED", id="a stale bound after prices fell"),
         pytest.param(of_text("bound.cert", lambda t: t.replace("END\n", "")), "REFUSED|fault", id="a bound cut off"),
@@ -183,8 +181,8 @@ def of_cell(column, change, row=1, name="tables/schedule.csv"):
         path = folder / name
         lines = [line.split(",") for line in path.read_text().splitlines()]
         cells, at = lines[row], lines[0].index(column)
-        assert cells[at] != (told := change(dict(zip(lines[0], cells)), cells[at]))
-        cells[at] = str(told)
+        assert cells[at] != (words := change(dict(zip(lines[0], cells)), cells[at]))
+        cells[at] = str(words)
         path.write_text("".join(",".join(line) + "\n" for line in lines))
 
     return made
@@ -208,6 +206,28 @@ def of_sunk(column, change):
         of_cell(column, change, row)(folder)
 
     return made
+
+
+def of_ways(change):
+    """The ways of all blocks, by their lines in schedule.txt."""
+
+    def changed(text):
+        rows = [row.split() for row in text.splitlines()]
+        return "".join(" ".join(row) + "\n" for row in change(rows))
+
+    return of_text("schedule/schedule.txt", changed)
+
+
+def first_to_waste(rows):
+    """A block that is milled goes to waste."""
+    first = next(row for row in rows if row[2] == "0")
+    return [[*row[:2], "1"] if row is first else row for row in rows]
+
+
+def first_to_the_mill(rows):
+    """A block that gains nothing by the mill goes there."""
+    waste = next(row for row in reversed(rows) if row[2] == "1")
+    return [[*row[:2], "0"] if row is waste else row for row in rows]
 
 
 def of_terms(**changes):
@@ -237,8 +257,10 @@ BUNDLED = {
     "feed without dilution": (of_text("schedule/uses.blocks", without_dilution), "flows|of feed"),
     "a sink of one bench more": (of_terms(sink=lambda sink: sink + 1), "sink rate|pair|flows"),
     "a sink of no year": (of_terms(lag=lambda lag: 0), "sink rate|pair|flows"),
-    "a block's way forgotten": (of_terms(sent=lambda sent: sent[1:]), "schedule.csv"),
-    "a way of a block that stays": (of_terms(sent=lambda sent: [*sent, 10**6]), "isn't dug"),
+    "a block's way forgotten": (of_ways(first_to_waste), "schedule.csv"),
+    "the way of one block left out": (of_ways(lambda rows: [rows[0][:2], *rows[1:]]), "way for some blocks"),
+    "a way that gains nothing": (of_ways(first_to_the_mill), "its way|schedule.csv|uses"),
+    "feed that waste takes too": (of_text(PERIODS, lambda t: t.replace("[0, [1]]", "[0, 1]")), "columns of uses"),
     "a fixed cost of the year before": (of_terms(fixed_cost=lambda cost: cost - 1), "fixed cost|schedule.csv|flows"),
     "cash flow discounted twice": (of_cell("discounted", lambda row, v: float(v) * float(row["weight"])), "discounted"),
     "a year's worth for that so far": (of_cell("npv", lambda row, v: row["discounted"], 2), "npv"),
@@ -250,7 +272,8 @@ BUNDLED = {
     "ore for feed": (of_cell("feed_t", lambda row, v: row["ore_t"]), "line 2"),
     "strip the other way round": (of_cell("strip", lambda row, v: 1 / float(v)), "line 2"),
     "the share of another rate": (of_cell("mill_used", lambda row, v: row["mining_used"]), "mill_used"),
-    "what binds left out": (of_sunk("binds", lambda row, v: v.replace("sink", "").strip()), "binds"),
+    "what binds left out": (of_sunk("binds", lambda row, v: v.replace("sink", "").strip("; ")), "binds"),
+    "what binds told otherwise": (of_cell("binds", lambda row, v: "" if v else "mining"), "binds"),
     "a column too many": (of_sunk("sink_columns", lambda row, v: int(v) + 1), "sink_columns"),
     "another bench that waits": (of_sunk("sink_bench", plus(15.0)), "sink_bench"),
     "a bench too deep": (of_cell("bottom", plus(-15.0)), "bottom"),
@@ -341,16 +364,24 @@ def discounted_twice(made, plan):
     )
 
 
+def one_forgotten(made, plan):
+    """The first block that is sent goes to waste."""
+    found = RIGHT["ways_chosen"](made, plan)
+    found[np.flatnonzero(found)[0]] = 0
+    return found
+
+
 @pytest.mark.parametrize(
     "name, mistake",
     [
         ("worth", discounted_twice),
-        ("blocks_sent", lambda made, plan: RIGHT["blocks_sent"](made, plan)[1:]),
+        ("ways_chosen", one_forgotten),
         ("of_blocks", lambda made, plan: np.minimum(RIGHT["of_blocks"](made, plan), 0)),
     ],
 )
 def test_pit_contradicts_what_is_counted_otherwise(planned, tmp_path, monkeypatch, name, mistake):
-    """A cash flow that is discounted twice, a block's way that is forgotten, and all blocks in the first year."""
+    """A cash flow that is discounted twice, a block's way that is forgotten, and all blocks in the
+    first year."""
     made, plan = planned.found.production, planned.kept.schedule()
     monkeypatch.setattr(Production, name, mistake)
     with pytest.raises(Disagreement, match="pit schedule says"):

@@ -1,8 +1,10 @@
-"""A bundle's schedule is checked again by a script that shares nothing with the package; whatever is changed in it is
-told."""
+"""A bundle's schedule is checked again by a script that shares nothing with the package; whatever
+is changed in it is told."""
 import gzip
+import hashlib
 import json
 import os
+import py_compile
 import re
 import shutil
 import subprocess
@@ -14,8 +16,8 @@ from pathlib import Path
 import mines
 import numpy as np
 import pytest
-from bundles import with_schedule
-from pitplan.schedule import judged, plan as of_plan
+from bundles import rechecked, summed, with_schedule
+from pitplan.schedule import pit_schedule, plan as of_plan
 
 RICH = mines.STUDY_TOML.replace("price = 8500", "price = 24000").replace(
     "mining = 2.0", "mining = 2.0\ndilution = 0.05"
@@ -83,7 +85,7 @@ def with_ways(tmp_path_factory):
     )[0]
 
 
-def told(**changes):
+def with_terms(**changes):
     """A change of terms.json: a new value, or what becomes of the one that is there."""
 
     def made(bundle):
@@ -96,25 +98,40 @@ def told(**changes):
     return made
 
 
+def lead_twice(bundle):
+    """A key of terms.json with another value before its own."""
+    path = bundle / "schedule" / "terms.json"
+    path.write_text(path.read_text().replace('"lead":', '"lead": 9, "lead":'))
+
+
 def later(bundle):
     """A block of the first pushback on the lowest bench of it is dug last."""
     last = bundle / "certificates" / "f00600.cert.gz"
     pit = [int(line.split()[1]) for line in gzip.open(last, "rt") if line.startswith("PIT")]
     place = {int(w[0]): int(w[3]) for w in map(str.split, open(bundle / "model" / "mine.blocks"))}
     low = min(pit, key=place.get)
-    of_schedule(bundle, lambda text: re.sub(rf"^{low} \d+$", f"{low} 5", text, flags=re.M))
+    of_schedule(bundle, lambda text: re.sub(rf"^{low} \d+ ", f"{low} 5 ", text, flags=re.M))
+
+
+def with_way(before, after):
+    """The first line of a schedule that ends in one way, with another one."""
+    return lambda bundle: of_schedule(
+        bundle, lambda text: re.sub(rf" {before}\n", f"{after}\n", text, count=1)
+    )
 
 
 @pytest.mark.parametrize(
     "change, words",
     [
-        (told(sent=lambda sent: sent[1:]), "schedule.csv"),
-        (told(sent=lambda sent: [*sent, 10**6]), "a block is sent that isn't dug"),
-        (told(sent=None), "uses|no pair|flows|schedule.csv|cut-off"),
-        (told(fixed_cost=0), "flows|fixed cost|schedule.csv"),
-        (told(fixed_cost=lambda cost: cost + 1), "fixed cost|schedule.csv"),
-        (told(pushbacks=[]), "pushbacks|no pair|flows|IndexError|list index"),
-        (told(lead=1), "ahead of it|no pair|flows|pushbacks"),
+        (lead_twice, "schedule/terms.json: the key 'lead' comes twice in a table"),
+        (with_way("0", " 1"), "schedule.csv"),
+        (with_way("0", " 2"), "its way"),
+        (with_way("0", ""), "for some blocks alone"),
+        (with_way("1", " 0"), "its way|schedule.csv|uses"),
+        (with_terms(fixed_cost=0), "flows|fixed cost|schedule.csv"),
+        (with_terms(fixed_cost=lambda cost: cost + 1), "fixed cost|schedule.csv"),
+        (with_terms(pushbacks=[]), "pushbacks|no pair|flows|IndexError|list index"),
+        (with_terms(lead=1), "ahead of it|no pair|flows|pushbacks"),
         (later, "ahead of it|is dug before|uses"),
     ],
 )
@@ -145,6 +162,62 @@ def test_no_file_beside_a_script_is_run_for_one_of_the_library(whole, tmp_path, 
     assert not ran.exists(), ran.read_text()
 
 
+@pytest.mark.parametrize("how", ["compiled", "package"])
+def test_no_code_beside_a_script_is_run_in_place_of_the_other_script(whole, tmp_path, how):
+    bundle, ran = Path(shutil.copytree(whole, tmp_path / "bundle")), tmp_path / "ran"
+    code = f"open({str(ran)!r}, 'w')\n"
+    if how == "package":
+        (bundle / "recheck").mkdir()
+        (bundle / "recheck" / "__init__.py").write_text(code)
+    else:
+        (tmp_path / "recheck.py").write_text(code)
+        (bundle / "__pycache__").mkdir()
+        at = bundle / "__pycache__" / f"recheck.{sys.implementation.cache_tag}.pyc"
+        unchecked = py_compile.PycInvalidationMode.UNCHECKED_HASH
+        py_compile.compile(tmp_path / "recheck.py", at, invalidation_mode=unchecked)
+    assert checked(bundle)[0] == 0
+    assert not ran.exists()
+
+
+def without_plan(whole, folder):
+    """A copy of a bundle without the files of its plan, whose list of files was made anew."""
+    bundle = Path(shutil.copytree(whole, folder))
+    shutil.rmtree(bundle / "schedule")
+    (bundle / "recheck_schedule.py").unlink()
+    for path in bundle.glob("tables/schedule*.csv"):
+        path.unlink()
+    summed(bundle)
+    return bundle
+
+
+def test_a_plan_that_was_taken_out_is_noticed(whole, tmp_path):
+    bundle = without_plan(whole, tmp_path / "bundle")
+    lines, status = rechecked(bundle)
+    assert status == 1
+    (line,) = [line for line in lines if line.startswith("WRONG")]
+    assert "the plan by years is in the bundle, which recheck_schedule.py checks: not so" in line
+    facts = json.loads((bundle / "facts.json").read_text()) | {"has_schedule": False}
+    (bundle / "facts.json").write_text(json.dumps(facts))
+    summed(bundle)
+    words = [sys.executable, "-I", bundle / "recheck.py", os.environ["PIT"]]
+    ran = subprocess.run(words, capture_output=True, text=True)
+    assert ran.returncode == 0, ran.stdout
+    assert "look    study.toml asks for a plan by years, and the bundle has none" in ran.stdout
+
+
+def test_a_file_that_no_check_reads_is_told(whole, tmp_path):
+    bundle = Path(shutil.copytree(whole, tmp_path / "bundle"))
+    (bundle / "schedule2").mkdir()
+    (bundle / "schedule2" / "plan.txt").write_text("0 0\n")
+    digest = hashlib.sha256(b"0 0\n").hexdigest()
+    with open(bundle / "SHA256SUMS", "a") as sums:
+        sums.write(f"{digest}  schedule2/plan.txt\n")
+    words = [sys.executable, "-I", bundle / "recheck.py", os.environ["PIT"]]
+    ran = subprocess.run(words, capture_output=True, text=True)
+    assert ran.returncode == 1
+    assert "schedule2/plan.txt: nothing of a bundle has that name" in ran.stdout
+
+
 def of_schedule(bundle, change):
     path = bundle / "schedule" / "schedule.txt"
     path.write_text(change(path.read_text()))
@@ -173,6 +246,22 @@ def of_certificate(old, new):
         path.write_bytes(gzip.compress(re.sub(old, new, text, count=1, flags=re.M).encode()))
 
     return made
+
+
+def every_flow_twice(bundle):
+    path = bundle / "schedule" / "bound.cert.gz"
+    text = gzip.decompress(path.read_bytes()).decode()
+    text = re.sub(r"^((?:SOURCE|REST|SINK) .*\n)", r"\1\1", text, flags=re.M)
+    path.write_bytes(gzip.compress(text.encode()))
+
+
+def a_bound_that_is_cut(bundle):
+    path = bundle / "schedule" / "bound.cert.gz"
+    path.write_bytes(path.read_bytes()[:-9])
+
+
+def a_bound_without_line_ends(bundle):
+    (bundle / "schedule" / "bound.cert.gz").write_bytes(gzip.compress(b"0" * (1 << 21)))
 
 
 def of_line(name, old, new):
@@ -216,6 +305,18 @@ def of_terms(bundle):
         (of_certificate(r"^SOURCE (\d+) (\d+) 0$", r"SOURCE \1 9\2 0"), "flows"),
         (of_certificate(r"^REST (\d+) \d+ ", r"REST \1 \1 "), "no pair"),
         (of_certificate(r"^END\n", ""), "cut off"),
+        (of_certificate(r"^SOURCE \d+ ", "SOURCE -1 "), "no such node"),
+        (every_flow_twice, "more flows"),
+        (a_bound_that_is_cut, "cut off"),
+        (a_bound_without_line_ends, "has a line of more than"),
+        (
+            of_line("schedule/periods.toml", r"^(multipliers = .*)\b\d+\]\]", r"\1nan]]"),
+            "whole number",
+        ),
+        (
+            of_line("schedule/periods.toml", r"^(capacities = .*)\b\d+\]\]", r"\1inf]]"),
+            "whole number",
+        ),
         (of_terms, "sink rate|no pair|flows"),
         (of_line("study.toml", "discount = 0.08", "discount = 0.09"), "period 1 weighs"),
         (of_line("study.toml", r"years = 6", 'years = 6\nwhen = "end"'), "period 1 weighs"),
@@ -257,7 +358,7 @@ def with_terms(change):
 
 
 def feed_without_dilution(patch):
-    made, uses = of_plan.production_of, judged.block_uses
+    made, uses = of_plan.production_of, pit_schedule.block_uses
 
     def less(array):
         return np.stack([array[0], array[1] * 100 // 105])
@@ -267,7 +368,7 @@ def feed_without_dilution(patch):
         return replace(found, uses=less(found.uses))
 
     patch.setattr(of_plan, "production_of", production)
-    patch.setattr(judged, "block_uses", lambda *words: less(uses(*words)))
+    patch.setattr(pit_schedule, "block_uses", lambda *words: less(uses(*words)))
 
 
 @pytest.mark.parametrize(

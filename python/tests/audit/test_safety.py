@@ -1,4 +1,5 @@
-"""Tables, studies and what stands in a study's folder are a stranger's: they bring numbers and words, and no code, path or markup."""
+"""Tables, studies and what stands in a study's folder are a stranger's: they bring numbers and
+words, and no code, path or markup."""
 import ast
 import csv
 import gzip
@@ -23,17 +24,17 @@ import served
 from pitplan.table import spreadsheets
 from pitplan.cli import shells as commands_shells
 from pitplan.table import csv_text
-from pitplan.tasks import engines
+from pitplan.tasks import clusters
 from pitplan.audit import recheck
 from pitplan.plans import risk, vary
 from pitplan.model import store
 from pitplan.base.errors import PlanError
 from pitplan.table.formula import worked_out
-from pitplan.study.resting import Resting
+from pitplan.study.predecessors import Resting
 from pitplan.tasks.status import seconds_left, states
 from pitplan.study.study_file import read_study_file
 from pitplan.plans.task_line import Task
-from pitplan.tasks.task import Tasks, wanted
+from pitplan.tasks.tasks import Tasks, wanted
 from pitplan.table.spreadsheets import write_table
 from bundles import bundled
 
@@ -140,9 +141,9 @@ def test_a_formula_reaches_columns_and_arithmetic_alone(table, tmp_path, text):
 def test_the_formulas_of_recheck_reach_no_more(tmp_path, text):
     text = text.format(tmp_path / "made") if "{" in text else text
     row = {"CU": 0.5, "ROCK": "a"}
-    told = recheck.Report()
+    shown = recheck.Report()
     if not text.startswith("'a' *") and text != "9**9**9**9":
-        found = told.attempt(
+        found = shown.attempt(
             "mining", lambda: float(recheck.Formula(text, lambda name: row[name]).value())
         )
         assert found is None or isinstance(found, float)
@@ -405,7 +406,8 @@ def mode_of(path):
 
 @pytest.mark.parametrize("umask", [0o022, 0o077])
 def test_who_may_write_in_what_is_written(tmp_path, umask):
-    """In a folder that all may write in: a bundle is as the umask says; a study has its folder's mode, without write for others."""
+    """In a folder that all may write in: a bundle is as the umask says; a study has its folder's
+    mode, without write for others."""
     folder, before = tmp_path / "shared", os.umask(umask)
     try:
         folder.mkdir()
@@ -426,11 +428,11 @@ def test_who_may_write_in_what_is_written(tmp_path, umask):
 
 def changed(text, keys, value):
     """JSON with another value in the place that keys lead to."""
-    told = at = json.loads(text)
+    facts = at = json.loads(text)
     for key in keys[:-1]:
         at = at[key]
     at[keys[-1]] = value
-    return json.dumps(told)
+    return json.dumps(facts)
 
 
 STRANGE_VALUES = [
@@ -571,7 +573,7 @@ def test_a_what_if_leads_out_of_no_study(asked_for):
     try:
         path.write_text(changed(kept, ["changes"], [["../../x", 5]]))
         with pytest.raises(PlanError, match=r'vary.json is damaged: changes is \[\["../../x", 5'):
-            vary.tasks(pp.Study(asked_for))
+            vary.vary_tasks(pp.Study(asked_for))
     finally:
         path.write_text(kept)
 
@@ -636,9 +638,9 @@ def test_realisations_of_a_strange_shape_are_told(asked_for, tmp_path, shape):
     "typed", ["/opt/a\\b/pitplan", r"'/opt/C:\new\table' \\x", 'a "b" {c}', "a\nb"]
 )
 def test_a_snakefile_starts_the_very_command(asked_for, monkeypatch, typed):
-    monkeypatch.setattr(engines, "command", lambda: typed)
+    monkeypatch.setattr(clusters, "command", lambda: typed)
     text = (
-        engines.write_snakefile(pp.Study(asked_for), [Task("run", "base", (1000,))]) / "Snakefile"
+        clusters.write_snakefile(pp.Study(asked_for), [Task("run", "base", (1000,))]) / "Snakefile"
     ).read_text()
     said = ast.literal_eval(text.split("    shell: ")[1].strip())
     assert said.format(wildcards=SimpleNamespace(i=7)).startswith(
@@ -659,7 +661,7 @@ def test_a_file_called_log_hinders_no_task_and_is_told(asked_for):
         with pytest.raises(
             PlanError, match="log is a file, and what tasks say is kept in a folder of that name"
         ):
-            engines.listed(pp.Study(asked_for), [task])
+            clusters.listed(pp.Study(asked_for), [task])
     finally:
         (asked_for / "log").unlink()
 

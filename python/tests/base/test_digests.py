@@ -25,25 +25,25 @@ def digest(text):
 
 def written_again(path, text):
     """Other bytes in the same file, and its time of writing put back."""
-    told = path.stat()
+    stat = path.stat()
     with open(path, "r+b") as file:
         file.write(text)
-    os.utime(path, ns=(told.st_atime_ns, told.st_mtime_ns))
+    os.utime(path, ns=(stat.st_atime_ns, stat.st_mtime_ns))
 
 
 def put_in_its_place(path, text):
     """Another file of that name, of the same time of writing."""
-    told, other = path.stat(), path.with_name("other")
+    stat, other = path.stat(), path.with_name("other")
     other.write_bytes(text)
-    os.utime(other, ns=(told.st_atime_ns, told.st_mtime_ns))
+    os.utime(other, ns=(stat.st_atime_ns, stat.st_mtime_ns))
     os.replace(other, path)
 
 
 def linked_elsewhere(path, text):
     """The name leads to another file, of the same time of writing."""
-    told, other = path.stat(), path.with_name("elsewhere")
+    stat, other = path.stat(), path.with_name("elsewhere")
     other.write_bytes(text)
-    os.utime(other, ns=(told.st_atime_ns, told.st_mtime_ns))
+    os.utime(other, ns=(stat.st_atime_ns, stat.st_mtime_ns))
     path.unlink()
     path.symlink_to(other)
 
@@ -91,8 +91,9 @@ def coarse(monkeypatch):
     monkeypatch.setattr(
         digests,
         "stamp_of",
-        lambda path: (told := fine(path))._replace(
-            written=told.written // 10**12 * 10**12, changed=told.changed // 10**12 * 10**12
+        lambda path: (words := fine(path))._replace(
+            written=words.written // 10**12 * 10**12,
+            changed=words.changed // 10**12 * 10**12,
         ),
     )
 
@@ -111,7 +112,8 @@ def test_another_file_is_known_by_more_than_its_times(tmp_path, at_once, monkeyp
 
 
 def test_a_change_within_the_grain_of_the_clock_is_seen(tmp_path, monkeypatch):
-    """Changes of as many bytes and at the same time, as far as the system tells: what was touched so lately isn't known at all."""
+    """Changes of as many bytes and at the same time, as far as the system tells: what was touched
+    so lately isn't known at all."""
     coarse(monkeypatch)
     monkeypatch.setattr(digests, "SETTLED", 10**12)
     path = tmp_path / "a"

@@ -3,7 +3,7 @@ import subprocess
 
 import pytest
 
-from pitplan.base.files import host, put, sweep
+from pitplan.base.files import host, put, sweep, whole_file
 
 
 def dead() -> int:
@@ -43,3 +43,13 @@ def test_a_folder_comes_in_place_of_another(tmp_path):
     put(work, place)
     assert (place / "f").read_text() == "after"
     assert list(tmp_path.iterdir()) == [place]
+
+
+def test_a_file_that_fails_leaves_the_older_one(tmp_path):
+    (tmp_path / "x").write_text("older")
+    with pytest.raises(ZeroDivisionError):
+        with whole_file(tmp_path / "x") as part:
+            part.write_text("half")
+            1 / 0
+    assert (tmp_path / "x").read_text() == "older"
+    assert [p.name for p in tmp_path.iterdir()] == ["x"]

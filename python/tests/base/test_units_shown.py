@@ -4,7 +4,7 @@ import math
 import pytest
 
 from pitplan.base.units_shown import alike, grade_places, length_text, lengths
-from pitplan.model.tonnage import cells_of
+from pitplan.base.shown_cells import cells_of
 from pitplan.views.page_views import grade_texts
 from pitplan.views.report import xlsx
 from pitplan.views.report.contents import Column

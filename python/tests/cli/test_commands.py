@@ -2,17 +2,13 @@
 import os
 import re
 import shlex
-import shutil
 import subprocess
 
 import pandas as pd
-import pytest
 
 from mines import STUDY_TOML, table, written_study
-from pitplan.base import later
 from pitplan.base.files import host
 from pitplan.study.study_file import read_study_file
-from processes import TOP
 from served import PITPLAN, linked, pitplan
 
 
@@ -66,23 +62,6 @@ def test_from_a_table_to_shells(tmp_path):
     assert pitplan("init", "mine.csv", cwd=tmp_path).returncode == 3
 
 
-@pytest.mark.parametrize(
-    "words, status, said",
-    [
-        (("build", "nowhere"), 3, "isn't there"),
-        (("shells", "nowhere"), 3, "isn't there"),
-        (("init", "nowhere.csv"), 3, "no such file"),
-        (("biuld",), 2, "No such command"),
-        (("shells", ".", "--workers", "0"), 2, "--workers"),
-    ],
-)
-def test_wrong_words_and_files_have_their_status(tmp_path, words, status, said):
-    ran = pitplan(*words, cwd=tmp_path)
-    assert ran.returncode == status
-    assert said in ran.stderr
-    assert "Traceback" not in ran.stderr
-
-
 def test_shells_before_build_says_so(tmp_path):
     ran = pitplan("shells", written_study(tmp_path / "s"))
     assert ran.returncode == 3
@@ -91,8 +70,9 @@ def test_shells_before_build_says_so(tmp_path):
 
 
 def test_each_hint_can_be_pasted(tmp_path):
-    """What an error says to try is typed as it stands, until pitplan has nothing more to say; also where the folder has a space, a
-    study.toml has another name, and the command is found on the path."""
+    """What an error says to try is typed as it stands, until pitplan has nothing more to say; also
+    where the folder has a space, a study.toml has another name, and the command is found on the
+    path."""
     written_study(tmp_path / "my mine").joinpath("study.toml").rename(
         tmp_path / "my mine" / "high price.toml"
     )
@@ -122,31 +102,9 @@ def test_each_hint_can_be_pasted(tmp_path):
     ], ran.stderr
 
 
-def test_the_study_comes_first_and_the_order_of_earlier_versions_is_refused_by_the_new_one(
-    tmp_path,
-):
-    study = written_study(tmp_path / "s")
-    for words in (("build",), ("shells",)):
-        assert pitplan(*words, study).returncode == 0
-    for name, word in (("phases", "0.6,1"), ("bundle", "b")):
-        old = pitplan(name, word, "s", cwd=tmp_path)
-        assert old.returncode == 3, old.stderr
-        assert f"the study comes first: {word} is none, and s is one" in old.stderr
-        assert f"pitplan {name} s {word}\n" in old.stderr
-        assert not (tmp_path / word).exists()
-        new = pitplan(name, "s", word, cwd=tmp_path)
-        assert new.returncode == 0, new.stderr
-        here = pitplan(name, word, cwd=study)
-        assert here.returncode == 0, here.stderr
-        many = pitplan(name, "s", word, "third", cwd=tmp_path)
-        assert many.returncode == 3
-        assert "'third' is a word too many" in many.stderr
-    assert (tmp_path / "b" / "recheck.py").is_file()
-    assert (study / "b" / "recheck.py").is_file()
-
-
 def test_tables_of_the_model_before_are_set_aside(tmp_path):
-    """What pitplan wrote of another model goes to out/older; what is the user's stays, also a table that he wrote something into."""
+    """What pitplan wrote of another model goes to out/older, a table that the user wrote something
+    into apart from it; what is the user's own stays."""
     study = written_study(tmp_path / "s")
     text = (study / "study.toml").read_text()
     for words in (
@@ -167,19 +125,6 @@ def test_tables_of_the_model_before_are_set_aside(tmp_path):
     out = study / "out"
     (out / "mine.txt").write_text("of my own")
     (out / "benches.csv").write_text("a word of mine\n" + (out / "benches.csv").read_text())
-    before = {
-        path.relative_to(out).as_posix(): path.read_bytes()
-        for path in out.rglob("*")
-        if path.is_file() and not path.name.startswith(".")
-    }
-    assert {
-        "pit_by_pit.csv",
-        "t.csv",
-        "phases.csv",
-        "slopes.csv",
-        "slopes.png",
-        "compare-CU/summary.json",
-    } <= set(before)
 
     def files():
         return {
@@ -188,13 +133,23 @@ def test_tables_of_the_model_before_are_set_aside(tmp_path):
             if path.is_file() and not path.name.startswith(".")
         }
 
+    before = files()
+    assert {
+        "pit_by_pit.csv",
+        "t.csv",
+        "phases.csv",
+        "slopes.csv",
+        "slopes.png",
+        "compare-CU/summary.json",
+    } <= set(before)
     again = pitplan("build", study)
     assert again.returncode == 0
     assert files() == before
     assert "model before" not in again.stdout + again.stderr  # the same model
     (study / "study.toml").write_text(text.replace("mining = 2.0", "mining = 2.1"))
     ran = pitplan("build", study)
-    stay = {"mine.txt", "benches.csv", "slopes.csv", "slopes.png"}
+    stay = {"mine.txt", "slopes.csv", "slopes.png"}
+    before["changed/benches.csv"] = before.pop("benches.csv")
     assert {name: data for name, data in files().items()} == {
         name if name in stay else f"older/{name}": data for name, data in before.items()
     }
@@ -202,67 +157,31 @@ def test_tables_of_the_model_before_are_set_aside(tmp_path):
     assert f"{out}/older has what was written of the model before" in ran.stdout
     assert "pit_by_pit.csv" in ran.stdout
     assert ran.stderr.count("model before") == 1
-    assert f"{out}/benches.csv is of the model before" in ran.stderr
+    kept = "of the model before: changed/benches.csv\n"
+    assert f"{out}/older has what isn't as pitplan wrote it, {kept}" in ran.stderr
     (study / "study.toml").write_text(text.replace("angles = 45", "angles = 44"))
     assert "slopes.csv, slopes.png" in pitplan("build", study).stdout
     assert stay - set(files()) == {"slopes.csv", "slopes.png"}
 
 
-def test_help_needs_no_study_and_no_pit(tmp_path):
-    ran = subprocess.run(
-        [PITPLAN, "--help"],
-        cwd=tmp_path,
-        capture_output=True,
-        text=True,
-        env={**os.environ, "PIT": "/nowhere"},
-    )  # no fork of the server: its own start
-    assert ran.returncode == 0
-    assert all(name in ran.stdout for name in ("init", "build", "shells"))
-
-
-LOADED = """import sys
-sys.path.insert(0, {!r})
-sys.argv = ["pitplan", {!r}]
-from pitplan.cli.main import main
-try:
-    main()
-except SystemExit:
-    print(*(name for name in ("numpy", "pandas.core", "typer.rich_utils", "rich.markdown") if "__file__" in vars(sys.modules.get(name, object))))
-"""
-
-
-def test_a_command_loads_what_it_needs():
-    """What help and errors look like, and pandas, wait until somebody asks for them."""
-    for word, loaded in (("--version", ""), ("--help", "typer.rich_utils rich.markdown")):
-        ran = subprocess.run(
-            ["/usr/bin/python3", "-I", "-c", LOADED.format(str(TOP / "python"), word)],
-            capture_output=True,
-            text=True,
-        )
-        assert ran.stdout.splitlines()[-1] == loaded, ran.stdout + ran.stderr
-
-
-def test_ctrl_c_while_a_module_is_loaded_is_no_other_error(tmp_path, monkeypatch):
-    """A handler names an error of the module, which asks for the module again."""
-    (tmp_path / "slow_module.py").write_text("raise KeyboardInterrupt\n")
-    monkeypatch.syspath_prepend(str(tmp_path))
-    later.lazily("slow_module")
-    import slow_module
-
-    for _ in range(2):
-        with pytest.raises(KeyboardInterrupt):
-            try:
-                slow_module.read()
-            except slow_module.Error:
-                pass
-
-
-def test_ctrl_c_while_the_command_is_loaded_is_told_in_a_line(tmp_path):
-    (tmp_path / "lib" / "pontihaw" / "pitplan" / "cli").mkdir(parents=True)
-    (tmp_path / "lib/pontihaw/pitplan/cli/main.py").write_text("raise KeyboardInterrupt\n")
-    shutil.copy(PITPLAN, tmp_path / "pitplan")
-    ran = subprocess.run([str(tmp_path / "pitplan"), "shells"], capture_output=True, text=True)
-    assert (ran.returncode, ran.stderr) == (130, "stopped before anything was done\n")
+def test_what_a_planner_changed_is_kept_whatever_writes_over_it(tmp_path):
+    """Each table as it was changed is in out/older/changed, and that is told."""
+    study = written_study(tmp_path / "s")
+    out = study / "out"
+    every = (("build",), ("shells",), ("phases", "0.6,1"), ("compare", "--column", "CU"))
+    for words in every:
+        pitplan(words[0], study, *words[1:])
+    names = ("pit_by_pit.csv", "benches.csv", "t.csv", "phases.csv", "compare-CU/summary.json")
+    mine = {}
+    for name in names:
+        mine[name] = "a word of mine\n" + (out / name).read_text()
+        (out / name).write_text(mine[name])
+    said = "".join(pitplan(words[0], study, *words[1:]).stderr for words in every)
+    for name in names:
+        assert (out / "older/changed" / name).read_text() == mine[name]
+        assert (out / name).read_text() == mine[name].removeprefix("a word of mine\n")
+        assert f"look: {out}/older has what isn't as pitplan wrote it: changed/{name}\n" in said
+    assert not (out / "older/changed-2").exists()
 
 
 def test_what_a_killed_build_and_bundle_left_is_taken_away(tmp_path):
@@ -275,12 +194,6 @@ def test_what_a_killed_build_and_bundle_left_is_taken_away(tmp_path):
     assert sorted(path.name for path in folder.iterdir() if path.name.startswith(".")) == [
         f".model.{host()}.{os.getpid()}.abcdefgh"
     ]
-
-
-def test_a_missing_pit_is_told(tmp_path):
-    ran = pitplan("build", written_study(tmp_path / "s"), PIT="/nowhere/pit")
-    assert ran.returncode == 3
-    assert "PIT in the environment" in ran.stderr
 
 
 def test_markup_in_names_does_no_harm(tmp_path):

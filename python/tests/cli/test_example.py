@@ -1,4 +1,5 @@
-"""The example mine of examples/copper as a planner has it, against the shells that docs/GUIDE.md prints of the same mine."""
+"""The example mine of examples/copper as a planner has it, against the shells that docs/GUIDE.md
+prints of the same mine."""
 import re
 import shutil
 from pathlib import Path

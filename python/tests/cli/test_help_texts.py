@@ -1,4 +1,5 @@
-"""The manual page and the completions of pitplan are what its help texts give, and shells complete what is typed."""
+"""The manual page and the completions of pitplan are what its help texts give, and shells complete
+what is typed."""
 import re
 import shutil
 import sys

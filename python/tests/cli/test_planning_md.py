@@ -1,11 +1,14 @@
-"""Plays docs/PLANNING.md, and after it docs/STUDY.md: each command in them is run, in one folder, and prints what the document shows.
+"""Plays docs/PLANNING.md, and after it docs/STUDY.md: each command in them is run, in one folder,
+and prints what the document shows.
 
-In a document's indented blocks a line `$ words` is a command, and the lines below it are what it prints; `..` stands for
-anything, in a line or in place of lines. What `$ cat FILE` shows of a text of one's own is written to FILE.
+In a document's indented blocks a line `$ words` is a command, and the lines below it are what it
+prints; `..` stands for anything, in a line or in place of lines. What `$ cat FILE` shows of a text
+of one's own is written to FILE.
 
     PIT=out/pit PYTHONPATH=python/tests/support python3 python/tests/cli/test_planning_md.py --rewrite
 
-puts what the commands print now in place of what the document shows, but for lines with `..`; read the difference.
+puts what the commands print now in place of what the document shows, but for lines with `..`; read
+the difference.
 """
 import os
 import re
@@ -109,7 +112,7 @@ def test_figures_of_the_text_are_in_what_was_printed():
     """A figure of the running text, outside of code and tables, is one that some command printed."""
     lines = "\n".join(document.read_text() for document in DOCUMENTS).splitlines()
     printed = "\n".join(line for line in lines if line.startswith("    "))
-    told = [
+    found = [
         number
         for line in lines
         if not line.startswith(("    ", "|"))
@@ -117,7 +120,7 @@ def test_figures_of_the_text_are_in_what_was_printed():
             r"(?<![\w.,-])\d[\d,]*\.?\d+(?![\w%])", re.sub(r"`[^`]*`", "", line)
         )
     ]
-    strange = [number for number in told if len(number) > 3 and number not in printed]
+    strange = [number for number in found if len(number) > 3 and number not in printed]
     assert not strange, strange
 
 

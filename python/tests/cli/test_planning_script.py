@@ -1,4 +1,5 @@
-"""examples/planning.py runs, and what it prints is what pit proves: at the full price no pit of the series is worth more."""
+"""examples/planning.py runs, and what it prints is what pit proves: at the full price no pit of the
+series is worth more."""
 import os
 import re
 import subprocess

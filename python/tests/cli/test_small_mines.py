@@ -1,5 +1,5 @@
-"""What commands print of a mine of a few thousand tonnes: in units in which its figures aren't all 0.00. Each figure is
-held against the files, which have plain tonnes and dollars."""
+"""What commands print of a mine of a few thousand tonnes: in units in which its figures aren't all
+0.00. Each figure is held against the files, which have plain tonnes and dollars."""
 import os
 import re
 import subprocess
@@ -91,3 +91,14 @@ def test_years(mine):
         found = figures(said.partition("by year")[2], str(row.period))
         for value in (row.rock_t, row.ore_t, row.feed_t, row.cash_flow, row.npv):
             assert round(value / 1e3, 2) in found
+
+
+def test_a_mine_in_which_nothing_pays_says_so(tmp_path):
+    text = mines.STUDY_TOML.replace("price = 8500", "price = 1")
+    frame = mines.table(9, 8, 5, 5).assign(CLASS="IND")
+    folder = mines.written_study(tmp_path / "s", frame, text)
+    assert "by resource class" in run("build", folder)
+    said = run("shells", folder)
+    assert "by resource class" not in said
+    for words in (said, run("plot", folder), run("page", folder)):
+        assert words.count("look: no pit has a block, up to factor") == 1

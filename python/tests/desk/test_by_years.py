@@ -1,4 +1,5 @@
-"""A study with a plan by years at the desk: its page with the years in a frame, its files, and what else goes by years."""
+"""A study with a plan by years at the desk: its page with the years in a frame, its files, and what
+else goes by years."""
 import pytest
 
 pytest.importorskip("numba")

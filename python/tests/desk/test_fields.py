@@ -1,4 +1,5 @@
-"""Each key of study.toml has a field, and each kind of value is written by its form as the reader takes it."""
+"""Each key of study.toml has a field, and each kind of value is written by its form as the reader
+takes it."""
 import shutil
 import tomllib
 

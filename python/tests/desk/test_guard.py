@@ -1,5 +1,5 @@
-"""Who may talk to the desk, and what they may reach: a test for each row of docs/DESK.md's table of dangers."""
-import inspect
+"""Who may talk to the desk, and what they may reach: a test for each row of docs/DESK.md's table of
+dangers."""
 import re
 import shutil
 import subprocess
@@ -12,30 +12,14 @@ pytest.importorskip("starlette")
 from starlette.applications import Starlette
 from starlette.testclient import TestClient
 
-from pitplan.cli.desk import desk as command
-from pitplan.desk import folder, routes, serve
-from pitplan.desk.asked import Commands
-from pitplan.desk.folder import Folder, Refused
+from pitplan.desk import routes
+from pitplan.desk.folder import Folder
 from pitplan.desk.guard import Guard
-from pitplan.base.errors import PlanError
+from hill import HILL, STUDY
 from processes import TOP
 
-HILL = TOP / "examples" / "hill.csv"
 HOST, ORIGIN, TOKEN = "desk:1", "http://desk:1", "the-token"
 LIMIT = 1_000_000
-STUDY = '[model]\ntable = "../hill.csv"\n'
-
-
-@pytest.fixture
-def root(tmp_path):
-    """A folder with a table and a study, and a secret beside it."""
-    root = tmp_path / "root"
-    (root / "hill" / "out").mkdir(parents=True)
-    (root / "hill.csv").write_bytes(HILL.read_bytes())
-    (root / "hill" / "study.toml").write_text(STUDY)
-    (root / "hill" / "out" / "pits.html").write_text("<script>1</script>")
-    (tmp_path / "secret.csv").write_text("x,y,z\n1,2,3\n")
-    return root
 
 
 @pytest.fixture
@@ -72,12 +56,12 @@ def test_nobody_comes_in_without_the_token(stranger, path):
 
 
 def test_the_token_becomes_a_cookie_that_no_script_and_no_other_page_has(stranger):
-    told = stranger.get(f"/?token={TOKEN}")
-    words = {word.strip() for word in told.headers["set-cookie"].split(";")}
+    answer = stranger.get(f"/?token={TOKEN}")
+    words = {word.strip() for word in answer.headers["set-cookie"].split(";")}
     assert {"HttpOnly", "SameSite=Strict", "Path=/"} <= words
     assert "Secure" not in words
-    assert TOKEN not in told.text
-    assert TOKEN not in str(told.url.copy_remove_param("token"))
+    assert TOKEN not in answer.text
+    assert TOKEN not in str(answer.url.copy_remove_param("token"))
     assert stranger.get("/api/studies/hill/pulse").status_code == 200
     secure = stranger.get(f"/?token={TOKEN}", headers={"host": "mine.example"})
     assert "Secure" in secure.headers["set-cookie"]
@@ -98,8 +82,8 @@ def test_another_name_of_this_address_is_refused(desk, host):
 )
 def test_another_page_is_refused(desk, origin):
     assert desk.get("/api/studies/hill/pulse", headers={"origin": origin}).status_code == 403
-    told = desk.request("DELETE", "/api/studies/hill/runs/1", headers={"origin": origin})
-    assert told.status_code == 403
+    answer = desk.request("DELETE", "/api/studies/hill/runs/1", headers={"origin": origin})
+    assert answer.status_code == 403
 
 
 def test_what_writes_has_to_say_where_it_comes_from(stranger):
@@ -114,16 +98,16 @@ def test_what_writes_has_to_say_where_it_comes_from(stranger):
     ):
         assert stranger.request(method, path, json={}).status_code == 403, path
     for site in ("cross-site", "same-site"):
-        told = stranger.get("/api/studies/hill/pulse", headers={"sec-fetch-site": site})
-        assert told.status_code == 403
+        answer = stranger.get("/api/studies/hill/pulse", headers={"sec-fetch-site": site})
+        assert answer.status_code == 403
 
 
 @pytest.mark.parametrize("kind", ["text/plain", "application/x-www-form-urlencoded", ""])
 def test_json_alone_writes(desk, kind):
     """A form of another page can't send JSON."""
     for method, path in (("POST", "/api/studies"), ("PATCH", "/api/studies/hill")):
-        told = desk.request(method, path, content=b"{}", headers={"content-type": kind})
-        assert told.status_code == 415
+        answer = desk.request(method, path, content=b"{}", headers={"content-type": kind})
+        assert answer.status_code == 415
 
 
 def test_pages_run_scripts_of_the_desk_alone(desk):
@@ -149,18 +133,18 @@ def test_no_script_of_the_desk_makes_markup_of_text():
 
 
 def test_a_page_of_a_study_is_a_stranger(desk, root):
-    told = desk.get("/files/hill/out/pits.html")
-    assert told.status_code == 200
-    assert told.headers["content-type"].startswith("text/html")
-    policy = told.headers["content-security-policy"]
+    answer = desk.get("/files/hill/out/pits.html")
+    assert answer.status_code == 200
+    assert answer.headers["content-type"].startswith("text/html")
+    policy = answer.headers["content-security-policy"]
     assert policy.startswith("sandbox allow-scripts allow-downloads;")
     assert "allow-same-origin" not in policy
     assert "default-src 'none'" in policy
     assert "connect-src" not in policy.replace("default-src 'none'", "")
     (root / "hill" / "out" / "more.svg").write_text("<svg onload='1'/>")
-    told = desk.get("/files/hill/out/more.svg")
-    assert told.headers["content-type"] == "application/octet-stream"
-    assert told.headers["content-disposition"].startswith("attachment")
+    answer = desk.get("/files/hill/out/more.svg")
+    assert answer.headers["content-type"] == "application/octet-stream"
+    assert answer.headers["content-disposition"].startswith("attachment")
 
 
 NAMES = [
@@ -182,8 +166,8 @@ NAMES = [
 def test_a_name_is_one_of_a_pattern_and_followed_to_its_end(desk, root, name):
     (root / "away").symlink_to(root.parent)
     (root / "secret.csv").symlink_to(root.parent / "secret.csv")
-    told = desk.post("/api/studies", json={"table": "hill.csv", "name": name})
-    assert told.status_code in (403, 404, 409), told.text
+    answer = desk.post("/api/studies", json={"table": "hill.csv", "name": name})
+    assert answer.status_code in (403, 404, 409), answer.text
     assert sorted(path.name for path in root.parent.iterdir()) == ["root", "secret.csv"]
 
 
@@ -208,9 +192,9 @@ def test_no_path_leads_out_of_a_study(desk, root, path):
     (root / "hill" / "model").mkdir()
     (root / "hill" / "model" / "manifest.json").write_text("{}")
     (root / "hill" / "log").mkdir()
-    told = desk.get(f"/files/hill/{path}")
-    assert told.status_code in (403, 404)
-    assert "1,2,3" not in told.text
+    answer = desk.get(f"/files/hill/{path}")
+    assert answer.status_code in (403, 404)
+    assert "1,2,3" not in answer.text
 
 
 def test_a_study_that_is_a_link_to_another_folder_is_none(desk, root):
@@ -230,9 +214,9 @@ def test_a_study_that_is_a_link_to_another_folder_is_none(desk, root):
 def test_a_table_outside_of_the_folder_is_neither_read_nor_run(desk, root):
     change = {"path": ["model", "table"], "was": "../hill.csv", "value": "../../secret.csv"}
     (root / "hill" / "study.toml").write_text(STUDY.replace("../hill", "../../secret"))
-    told = desk.get("/api/studies/hill").json()
-    assert "lies outside" in told["outside"][0]["said"]
-    assert told["outside"][0]["key"] == ["model", "table"]
+    answer = desk.get("/api/studies/hill").json()
+    assert "lies outside" in answer["outside"][0]["said"]
+    assert answer["outside"][0]["key"] == ["model", "table"]
     for what in ("look", "check", "rose", "ground", "cells?row=1"):
         assert desk.get(f"/api/studies/hill/{what}").status_code == 403, what
     assert desk.post("/api/studies/hill/runs", json={"what": "build"}).status_code == 403
@@ -260,91 +244,15 @@ def test_an_upload_is_a_table_in_the_folder(desk, root, name):
 
 
 def test_json_has_a_limit_and_has_to_be_a_table(desk):
-    told = desk.post(
+    answer = desk.post(
         "/api/studies", content=b" " * 2_000_001, headers={"content-type": "application/json"}
     )
-    assert told.status_code == 413
+    assert answer.status_code == 413
     for body in (b"[" * 100_000, b"{", b"[]", b'"x"', b"\xff"):
-        told = desk.post("/api/studies", content=body, headers={"content-type": "application/json"})
-        assert told.status_code == 400, body[:9]
-
-
-SMUGGLED = (
-    {"what": "vary", "changes": ["--workers=9"]},
-    {"what": "vary", "changes": [["--workers", 1, 9]]},
-    {"what": "vary", "changes": [["price", "--workers", 9]]},
-    {"what": "vary", "changes": ["/etc"]},
-    {"what": "vary", "changes": []},
-    {"what": "phases", "factors": ["--help"]},
-    {"what": "phases", "factors": "0.4"},
-    {"what": "phases", "factors": [0.4], "mining_width": "40; rm"},
-    {"what": "phases", "factors": [float("inf")]},
-    {"what": "export", "kinds": ["dxf"], "crs": "--x"},
-    {"what": "export", "kinds": ["sh"]},
-    {"what": "plot", "cut": "bench", "at": "1"},
-    {"what": "plot", "cut": "--help", "at": 1},
-    {"what": "compare", "design": "../../secret.csv"},
-    {"what": "compare", "design": "-d.dxf"},
-    {"what": "compare", "design": "d.dxf", "factor": True},
-    {"what": "schedule", "gap": "0.5 --workers 9"},
-    {"what": "schedule", "minutes": True},
-    {"what": "task"},
-    {"what": "submit"},
-    {},
-)
-
-
-@pytest.mark.parametrize("asked", SMUGGLED, ids=str)
-def test_no_word_of_the_browser_is_an_option(root, asked):
-    (root / "hill" / "designs").mkdir()
-    (root / "hill" / "designs" / "d.dxf").write_text("0")
-    with pytest.raises((PlanError, Refused)):
-        Commands(Folder(root), root / "hill", []).steps(asked)
-
-
-def test_what_a_button_runs(root):
-    """The commands of docs/PLANNING.md."""
-    (root / "hill" / "designs").mkdir()
-    (root / "hill" / "designs" / "d.dxf").write_text("0")
-    runs = [
-        {"what": "phases", "number": 2, "state": "done", "asked": {"factors": [0.4, 1]}},
-        {"what": "all", "number": 1, "state": "done", "asked": {}},
-    ]
-
-    def typed(before=(), **asked):
-        steps = Commands(Folder(root), root / "hill", list(before)).steps(asked)
-        return [" ".join(step) for step in steps]
-
-    assert typed(what="all") == ["build hill", "shells hill", "page hill", "plot hill"]
-    assert typed(what="phases", factors=[0.4, 1], mining_width=40) == [
-        "phases hill 0.4,1 --mining-width 40",
-        "page hill --phases 0.4,1",
-    ]
-    assert typed(runs, what="compare", design="d.dxf", factor=0.9) == [
-        "compare hill --surface hill/designs/d.dxf --factor 0.9",
-        "page hill --phases 0.4,1 --design hill/designs/d.dxf --factor 0.9",
-    ]
-    newer = [{"what": "build", "number": 3, "state": "done", "asked": {}}, *runs]
-    assert typed(newer, what="compare", design="d.dxf")[1].startswith("page hill --design")
-    assert typed(what="vary", changes=[["price", -20, 20]]) == [
-        "vary hill price=-20..20 --factor 1"
-    ]
-    changes = [["discount", "-2,5", -0.5], ["sink", -1, 1]]
-    by_years = {"what": "vary", "changes": changes, "schedule": True}
-    assert typed(**by_years) == ["vary hill discount=-2.5..-0.5 sink=-1..1 --schedule"]
-    assert typed(what="schedule") == ["schedule hill"]
-    assert typed(what="schedule", minutes=2, gap=0.5) == ["schedule hill --gap 0.5 --minutes 2"]
-    assert typed(what="export", kinds=["minelib"]) == ["export hill --to minelib"]
-    assert typed(what="risk") == ["risk hill --schedule"]
-    assert typed(what="page", schedule=True) == ["page hill --schedule"]
-    assert typed(runs, what="page", schedule=True) == ["page hill --phases 0.4,1 --schedule"]
-    files = {"what": "export", "kinds": ["dxf"]}
-    assert typed(**files, schedule=True) == ["export hill --to dxf --schedule"]
-    assert typed(**files, schedule="--workers") == ["export hill --to dxf"]
-    assert typed(what="plot", cut="bench", at=1005, colour="--help") == [
-        "plot hill --bench 1005 --colour=--help"
-    ]
-    assert typed(what="phases", factors=[0.1 + 0.2])[0] == "phases hill 0.3"
+        answer = desk.post(
+            "/api/studies", content=body, headers={"content-type": "application/json"}
+        )
+        assert answer.status_code == 400, body[:9]
 
 
 LINES = {".py": 1700, ".js": 1300, ".html .css": 300}  # all that there may be, at most so wide
@@ -386,20 +294,3 @@ def test_the_server_and_the_runs_load_no_tables():
     code = LIGHT.format(python=str(TOP / "python"))
     ran = subprocess.run([sys.executable, "-c", code], capture_output=True, text=True)
     assert ran.stdout == "[]\n", ran.stdout + ran.stderr
-
-
-def test_it_listens_to_this_machine_alone_unless_told():
-    assert inspect.signature(serve.serve).parameters["host"].default == "127.0.0.1"
-    assert inspect.signature(command).parameters["host"].default.default == "127.0.0.1"
-    names = serve.names_of(8750, ["https://desk.mine.example"])
-    assert names["localhost:8750"] == "http://localhost:8750"
-    assert names["desk.mine.example"] == "https://desk.mine.example"
-    for wrong in ("desk.mine.example", "ftp://x", "https://x/path", "https://"):
-        with pytest.raises(PlanError, match="is no address"):
-            serve.names_of(8750, [wrong])
-
-
-def test_an_answer_of_the_system_is_told_in_words(tmp_path):
-    full = folder.refusal(OSError(28, "No space left on device", "/mine/x.csv"))
-    assert full.status == 507
-    assert "make room" in full.told["errors"][0]["try"]

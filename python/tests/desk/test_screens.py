@@ -1,4 +1,6 @@
-"""The desk's pages: by keys alone, at two widths, with enough contrast, and with texts that would be markup."""
+"""The desk's pages: by keys alone, at two widths, with enough contrast, and with texts that would
+be markup."""
+import csv
 import json
 import os
 import shutil
@@ -109,7 +111,7 @@ return [count, [...low]]
 
 
 @pytest.mark.parametrize("where", [*(f"hill/{screen}" for screen in SCREENS), "odd/money", ""])
-def test_texts_stand_out_from_what_is_behind_them(browser, desk, where):
+def test_texts_stand_out_from_their_ground(browser, desk, where):
     browser.resized(1280, 800)
     shown(browser, desk, where)
     count, low = browser.script(CONTRAST)
@@ -235,6 +237,27 @@ def test_tables_of_pushbacks_and_of_slopes_fit(browser, desk, folder):
     assert browser.script(HIDDEN) == []
 
 
+def test_tables_that_a_terminal_made_are_shown(browser, desk, folder):
+    """Of the latest pits, with the worth of each and a mark on the best; and not once more beside
+    what a run of the desk has told."""
+    shutil.copytree(folder / "hill", folder / "typed")
+    said("phases", "typed", "0.6,1", cwd=folder)
+    browser.get("about:blank")  # or factors that were ticked elsewhere still are
+    browser.get(f"{desk.address}/#/typed/pits")
+    browser.sees("out/pit_by_pit.csv", "#main h3")
+    with open(folder / "typed" / "out" / "pit_by_pit.csv") as file:
+        best = next(row for row in csv.DictReader(file) if float(row["factor"]) == 1)
+    assert f"{float(best['worth_at_base']):,.0f}" in browser.text("#main tr.best")
+    assert "worth at base" in browser.text("#main table thead")
+    browser.get(f"{desk.address}/#/typed/pushbacks")
+    browser.sees("out/phases.csv", "#main h3")
+    for factor in ("0.6", "1"):
+        browser.click(f"[id='phase.{factor}']")
+    browser.click("#cut")
+    browser.sees("pushbacks done by", "#main")
+    browser.until(lambda: "out/phases.csv" not in browser.text("#main"), "the run's own table")
+
+
 HELD = """const asks = window.fetch;
 window.fetch = async (path, how) => {
   if (how?.method === 'PATCH') await new Promise(done => { window.lets = done; });
@@ -312,8 +335,6 @@ def test_an_older_study_is_taken_again_and_results_of_another_one_are_marked(bro
 
 TAKE = """[...document.querySelectorAll("button")].find(
     e => e.innerText.startsWith("take its")).click();"""
-
-
 SLOW = """const asks = window.fetch;
 window.fetch = async (path, how) => {
   if (path.endsWith('/odd')) await new Promise(done => { setTimeout(done, 4000); });
@@ -361,8 +382,8 @@ def test_an_older_page_is_marked_where_the_latest_run_was_stopped(browser, desk,
     steps = [["shells", "stopped"]]
     asked = {"what": "shells", "typed": ["pitplan shells stopped"], "steps": steps, "who": "Ana"}
     written = (folder / "stopped" / "out" / "pits.html").stat().st_mtime
-    told = {**asked, "asked": {"what": "shells"}, "began": written + 60, "root": str(folder)}
-    (run / "asked.json").write_text(json.dumps(told))
+    found = {**asked, "asked": {"what": "shells"}, "began": written + 60, "root": str(folder)}
+    (run / "asked.json").write_text(json.dumps(found))
     (run / "study.toml").write_bytes((folder / "stopped" / "study.toml").read_bytes())
     (run / "ended-130-1").touch()
     for part in ("page", "pictures", "files"):
@@ -388,9 +409,9 @@ def test_who_has_never_seen_a_terminal_is_told_what_comes_next(browser, desk, fo
 
 
 def test_a_number_with_a_separator_is_named_and_put_right_by_a_button(browser, desk, folder):
-    shutil.copytree(folder / "hill", folder / "typed")
-    study = folder / "typed" / "study.toml"
-    browser.get(f"{desk.address}/#/typed/money")
+    shutil.copytree(folder / "hill", folder / "separated")
+    study = folder / "separated" / "study.toml"
+    browser.get(f"{desk.address}/#/separated/money")
     price = "i.economics.metals.0.price"
     browser.sees("In the ground")
     browser.types(price, "9,250")
@@ -438,6 +459,21 @@ def test_what_ifs_are_named_and_take_a_decimal_comma(browser, desk):
     browser.fills("[id='if.price.0']", "9,250")  # which may be either
     browser.sees("'9,250' is no number; try: digits, and a point before decimals", "#main .typed")
     browser.fills("[id='if.price.0']", "-20")
+
+
+def test_what_rates_and_a_sink_rate_are_for(browser, desk, folder):
+    """Where [schedule] has no rates, a plan by years has those of [shells]; a sink rate is of
+    columns of blocks, of pushbacks or not."""
+    plain = shutil.copytree(folder / "hill", folder / "sinks") / "runs" / "schedule"
+    browser.get(f"{desk.address}/#/sinks/pits")
+    both = "for the discounted cases, and for a plan by years that has none of its own"
+    browser.sees(f"Rates and the discount are {both}", "#main")
+    plain.mkdir()
+    (plain / "schedule.npz").touch()
+    browser.get("about:blank")
+    browser.get(f"{desk.address}/#/sinks/vary")
+    browser.click("[id='by.years']")
+    browser.sees("how fast a column of blocks sinks", "#main table")
 
 
 def test_a_term_that_the_plan_by_years_takes_from_elsewhere_is_shown_in_its_box(browser, desk):
@@ -532,15 +568,15 @@ PRICE = "i.economics.metals.0.price"
 
 
 @pytest.mark.parametrize(
-    "first, then, other, stays",
+    "then, other, stays",
     [
-        ("9100", "9250", None, 9250),
-        ("9100", "8500", None, 8500),  # what stood there before
-        ("9100", "9250", 7000, 7000),  # another's change isn't written over
+        ("9250", None, 9250),
+        ("8500", None, 8500),  # what stood there before
+        ("9250", 7000, 7000),  # another's change isn't written over
     ],
 )
 def test_a_correction_while_the_first_change_is_on_its_way(
-    browser, desk, folder, first, then, other, stays
+    browser, desk, folder, then, other, stays
 ):
     name = f"late-{then}-{other}"
     shutil.copytree(folder / "hill", folder / name)
@@ -549,7 +585,7 @@ def test_a_correction_while_the_first_change_is_on_its_way(
     browser.get(f"{desk.address}/#/{name}/money")
     browser.sees("Nothing looks wrong")
     browser.script(LATE)
-    browser.fills(f"[id='{PRICE}']", first)
+    browser.fills(f"[id='{PRICE}']", "9100")
     browser.fills(f"[id='{PRICE}']", then)
     if other:
         study.write_text(study.read_text().replace("price = 8500", f"price = {other}"))
@@ -604,8 +640,8 @@ def test_the_name_of_a_study_is_whole_while_something_runs(browser, desk, folder
     (run / "going").touch()
     going = subprocess.Popen(["sleep", "600"], start_new_session=True)
     try:
-        told = {"pid": going.pid, "since": runs.since(going.pid), "host": host()}
-        write_json(run / "process.json", told)
+        found = {"pid": going.pid, "since": runs.since(going.pid), "host": host()}
+        write_json(run / "process.json", found)
         browser.resized(1280, 800)
         browser.get(f"{desk.address}/#/{name}/pits")
         browser.there("#running #stop")

@@ -1,11 +1,9 @@
-"""A planner's day at the desk, in real browsers: from a dropped table to saved files. Complaints of a browser are failures."""
-import base64
+"""A planner's day at the desk, in real browsers: from a dropped table to saved files. Complaints of
+a browser are failures."""
 import csv
 import os
 import shutil
 import signal
-import socket
-import time
 import tomllib
 
 import pytest
@@ -13,7 +11,7 @@ import pytest
 pytest.importorskip("selenium")
 pytest.importorskip("starlette")
 
-from desks import PATIENCE, TOKEN, Chromium, Desk, Fox
+from desks import PATIENCE, Chromium, Desk, Fox
 from processes import TOP
 
 HILL, DESIGN = TOP / "examples" / "hill.csv", TOP / "examples" / "hill-design.dxf"
@@ -32,14 +30,14 @@ def browser(request):
     found.close()
 
 
-def told(folder):
+def values_of(folder):
     return tomllib.loads((folder / "study.toml").read_text())
 
 
 def test_from_a_dropped_table_to_saved_files(browser, tmp_path):
     desk = Desk(tmp_path)
-    assert "127.0.0.1" not in desk.told
-    assert f"http://localhost:{desk.port}/?token=" in desk.told
+    assert "127.0.0.1" not in desk.greeting
+    assert f"http://localhost:{desk.port}/?token=" in desk.greeting
     browser.get(desk.address)
     browser.sees("Open the address that")
     browser.get(desk.door)
@@ -63,7 +61,7 @@ def prices(browser, study):
     browser.click("[id='to.money']")
     browser.sees("all\t5,041")
     browser.types("i.economics.metals.0.price", "8600")
-    assert told(study)["economics"]["metals"][0]["price"] == 8600
+    assert values_of(study)["economics"]["metals"][0]["price"] == 8600
     assert "# the share of the ore that reaches the mill" in (study / "study.toml").read_text()
     browser.types("i.economics.dilution", "3")
     browser.sees("has to be a number from 0 to 1", "[id='f.economics.dilution']")
@@ -74,7 +72,7 @@ def prices(browser, study):
     browser.sees("is 'ZC' meant", "[id='f.economics.mining']")
     browser.types("i.economics.mining", "2.0 + 0.03 * (1125 - ZC) / 10")
     browser.sees("Nothing looks wrong")
-    assert told(study)["economics"]["mining"] == "2.0 + 0.03 * (1125 - ZC) / 10"
+    assert values_of(study)["economics"]["mining"] == "2.0 + 0.03 * (1125 - ZC) / 10"
 
 
 def slopes(browser, study):
@@ -86,7 +84,7 @@ def slopes(browser, study):
     browser.picks("i.slopes.regions.NORTH.how", "by bearing")
     browser.types("i.slopes.regions.NORTH.0.1", "38")
     browser.sees("38.0", "table.data")
-    assert told(study)["slopes"]["regions"]["NORTH"][0] == [0, 38]
+    assert values_of(study)["slopes"]["regions"]["NORTH"][0] == [0, 38]
 
 
 def pits(browser, study):
@@ -146,41 +144,6 @@ def plans(browser, study):
     assert not (study / "log" / "desk" / "0005-x").exists()
 
 
-HALF = """PUT /api/tables/half.csv HTTP/1.1\r
-host: 127.0.0.1:{port}\r
-origin: http://127.0.0.1:{port}\r
-cookie: pitplan-desk-{port}={token}\r
-content-length: 1000\r
-\r
-abc"""
-
-
-def test_a_desk_ends_whatever_is_still_on_its_way(tmp_path):
-    desk = Desk(tmp_path)
-    with socket.create_connection(("127.0.0.1", desk.port)) as half:
-        half.sendall(HALF.format(port=desk.port, token=TOKEN).encode())
-        end = time.time() + PATIENCE
-        while not list(tmp_path.glob(".upload-*")):
-            assert time.time() < end
-            time.sleep(0.05)
-        desk.process.terminate()
-        desk.process.communicate(timeout=60)
-    assert not desk.process.returncode
-
-
-def test_it_listens_at_one_address_of_this_machine_and_its_token_is_random(tmp_path):
-    tokens = []
-    for _ in range(2):
-        desk = Desk(tmp_path, PITPLAN_DESK_TOKEN="")
-        socket.create_connection(("127.0.0.1", desk.port)).close()
-        with pytest.raises(ConnectionRefusedError):
-            socket.create_connection(("127.0.0.2", desk.port))
-        tokens.append(desk.told.partition("?token=")[2].split()[0])
-        desk.end()
-    assert len(set(tokens)) == 2
-    assert all(len(base64.urlsafe_b64decode(token)) * 8 >= 192 for token in tokens)
-
-
 SLOW = """#!/bin/sh
 case "$1" in shells) sleep 600;; esac
 exec {pit} "$@"
@@ -232,7 +195,7 @@ def test_what_is_typed_waits_for_a_desk_that_was_restarted_with_another_token(br
     browser.press_on("a", "hill")
     browser.click("[id='to.money']")
     browser.there("[id='i.economics.metals.0.price']")
-    before = told(folder / "hill")["economics"]["metals"][0]["price"]
+    before = values_of(folder / "hill")["economics"]["metals"][0]["price"]
     desk.end()
     again = Desk(folder, port=desk.port, PITPLAN_DESK_TOKEN="another")
     banner = "return getComputedStyle(document.body, '::after').content"
@@ -241,10 +204,10 @@ def test_what_is_typed_waits_for_a_desk_that_was_restarted_with_another_token(br
     browser.until(lambda: "started again" in browser.script(banner), "still")
     code = "return document.getElementById('i.economics.metals.0.price').value"
     assert browser.script(code) == str(before + 100)
-    assert told(folder / "hill")["economics"]["metals"][0]["price"] == before
+    assert values_of(folder / "hill")["economics"]["metals"][0]["price"] == before
     browser.script("fetch('/?token=another')")  # as another tab opens it
     browser.sees(f"price = {before + 100}", "#text")
-    assert told(folder / "hill")["economics"]["metals"][0]["price"] == before + 100
+    assert values_of(folder / "hill")["economics"]["metals"][0]["price"] == before + 100
     assert "started again" not in browser.script(banner)
     again.end()
 
@@ -258,7 +221,7 @@ def test_two_people_at_once(browser, planned):
             each.press_on("a", "hill")
             each.click("[id='to.money']")
             each.there("[id='i.economics.metals.0.price']")
-        before = told(folder / "hill")["economics"]["metals"][0]["price"]
+        before = values_of(folder / "hill")["economics"]["metals"][0]["price"]
         other.types("i.economics.metals.0.price", str(before + 100))
         code = "return document.getElementById('i.economics.metals.0.price').value"
         browser.until(lambda: browser.script(code) == str(before + 100), "the other's price")
@@ -269,7 +232,7 @@ def test_two_people_at_once(browser, planned):
         other.types("i.economics.metals.0.price", str(before + 300))
         other.hears("was changed meanwhile")
         other.until(lambda: other.script(code) == str(before + 200), "what stands there now")
-        assert told(folder / "hill")["economics"]["metals"][0]["price"] == before + 200
+        assert values_of(folder / "hill")["economics"]["metals"][0]["price"] == before + 200
         # one is still typing when the other's change comes
         box = "const e = document.getElementById('i.economics.metals.0.price');"
         browser.script(box + f"e.focus(); e.value = '{before + 400}'")
@@ -278,9 +241,9 @@ def test_two_people_at_once(browser, planned):
         browser.script(box + "e.dispatchEvent(new Event('change')); e.blur()")
         browser.hears("was changed meanwhile")
         browser.until(lambda: browser.script(code) == str(before + 500), "what stands there now")
-        assert told(folder / "hill")["economics"]["metals"][0]["price"] == before + 500
+        assert values_of(folder / "hill")["economics"]["metals"][0]["price"] == before + 500
         browser.types("i.economics.metals.0.price", str(before + 600))
-        assert told(folder / "hill")["economics"]["metals"][0]["price"] == before + 600
+        assert values_of(folder / "hill")["economics"]["metals"][0]["price"] == before + 600
     finally:
         other.close()
         desk.end()

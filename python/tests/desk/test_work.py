@@ -1,15 +1,9 @@
 """What the desk says of a table and a study is what a command in a terminal says."""
-import asyncio
-import functools
 import gzip
 import io
-import os
 import re
-import resource
-import signal
 import subprocess
 import sys
-import time
 from pathlib import Path
 
 import ezdxf
@@ -19,12 +13,10 @@ pytest.importorskip("starlette")
 from starlette.applications import Starlette
 from starlette.testclient import TestClient
 
-from pitplan.base import machine
-from pitplan.desk import manual, routes, work, worker
+from pitplan.desk import routes, work
 from pitplan.desk.folder import Folder
 from pitplan.desk.guard import Guard
 from pitplan.desk.routes import Desk
-from pitplan.desk.worker import Worker
 from processes import TOP, gone, started
 from served import pitplan
 
@@ -64,8 +56,8 @@ def desk(anywhere):
 
 
 def begun(desk, name, table="hill.csv", **more):
-    told = desk.post("/api/studies", json={"table": table, "name": name, **more}).json()
-    assert told == {"study": name}, told
+    answer = desk.post("/api/studies", json={"table": table, "name": name, **more}).json()
+    assert answer == {"study": name}, answer
     return desk.root / name
 
 
@@ -113,19 +105,19 @@ def test_the_check_is_the_one_of_the_terminal(desk):
     study = begun(desk, "checked")
     changes = (["economics", "metals", "copper", "price_unit"], "lb"), (["slopes", "angles"], 50)
     assert changed(desk, "checked", *changes).status_code == 200
-    told = desk.get("/api/studies/checked/check").json()
+    answer = desk.get("/api/studies/checked/check").json()
     ran = pitplan("check", study)
     assert ran.returncode == 0
     looks = re.findall(r"look: (.*)\n  try: (.*)", ran.stderr)
-    assert told["looks"]
-    assert [it["said"] for it in told["looks"]] == [
+    assert answer["looks"]
+    assert [it["said"] for it in answer["looks"]] == [
         f"{what}; try: {advice}" for what, advice in looks
     ]
     rows = [line.split() for line in ran.stdout.splitlines() if line.split()[:1] == ["all"]]
-    assert told["tonnage"]["rows"][-1] == [cell for cell in rows[0]]
-    assert f"{told['blocks']:,} blocks of 20 x 20 x 10" in ran.stdout
+    assert answer["tonnage"]["rows"][-1] == [cell for cell in rows[0]]
+    assert f"{answer['blocks']:,} blocks of 20 x 20 x 10" in ran.stdout
     heights = sorted({float(row.split(",")[3]) for row in HILL.splitlines()[1:]}, reverse=True)
-    assert told["benches"] == heights
+    assert answer["benches"] == heights
 
 
 def test_errors_are_pitplans_with_their_key_their_line_and_their_remedy(desk):
@@ -139,12 +131,12 @@ def test_errors_are_pitplans_with_their_key_their_line_and_their_remedy(desk):
     text = (study / "study.toml").read_text()
     text = re.sub(r"absent = \[.*?\]", 'absent = ["-99"]', text)
     (study / "study.toml").write_text(text)
-    told = {tuple(e["key"][:2]): e for e in desk.get("/api/studies/north/check").json()["errors"]}
+    answer = {tuple(e["key"][:2]): e for e in desk.get("/api/studies/north/check").json()["errors"]}
     lines = text.splitlines()
-    dilution = told["economics", "dilution"]
+    dilution = answer["economics", "dilution"]
     assert lines[dilution["line"] - 1].startswith("dilution = 3")
-    assert ("slopes", "angles") in told
-    cell = next(e for e in told.values() if e["row"])
+    assert ("slopes", "angles") in answer
+    cell = next(e for e in answer.values() if e["row"])
     assert (cell["row"], cell["column"]) == (126, "CU")
     assert "'trace'" in cell["said"]
     remedy = cell["remedy"]
@@ -154,7 +146,7 @@ def test_errors_are_pitplans_with_their_key_their_line_and_their_remedy(desk):
         True,
     )
     ran = pitplan("check", study)
-    assert all(error["said"] in ran.stderr for error in told.values())
+    assert all(error["said"] in ran.stderr for error in answer.values())
     near = desk.get("/api/studies/north/cells?row=126").json()["rows"]
     assert [row for row, _ in near] == [1, 125, 126, 127]
     assert near[2][1][5] == "trace"
@@ -166,10 +158,10 @@ def test_errors_are_pitplans_with_their_key_their_line_and_their_remedy(desk):
 
 def test_columns_whose_names_are_not_known_are_asked_for(desk):
     (desk.root / "odd.csv").write_text(HILL.replace("XC,YC,ZC", "un,deux,trois", 1))
-    told = desk.post("/api/studies", json={"table": "odd.csv", "name": "odd"}).json()
-    assert told["header"][1:4] == ["un", "deux", "trois"]
-    assert told["found"] == {"id": "BLOCKID", "density": "SG", "rock": "ROCK"}
-    assert told["errors"][0]["try"] == work.ASK_COLUMNS
+    answer = desk.post("/api/studies", json={"table": "odd.csv", "name": "odd"}).json()
+    assert answer["header"][1:4] == ["un", "deux", "trois"]
+    assert answer["found"] == {"id": "BLOCKID", "density": "SG", "rock": "ROCK"}
+    assert answer["errors"][0]["try"] == work.ASK_COLUMNS
     assert not (desk.root / "odd").exists()
     begun(desk, "odd", "odd.csv", columns={"x": "un", "y": "deux", "z": "trois"})
 
@@ -191,11 +183,11 @@ def test_what_is_written_while_a_study_is_read_is_noticed(desk, anywhere, monkey
 
 def test_what_a_table_looks_like(desk):
     begun(desk, "looked")
-    told = desk.get("/api/studies/looked/look").json()
-    assert (told["rows"], told["size"], told["rotation"]) == (5041, [20, 20, 10], 30)
-    assert told["regions"] == ["NORTH", "SOUTH"]
-    assert told["grades"] == ["CU", "AU"]
-    column = {each["name"]: each for each in told["columns"]}
+    answer = desk.get("/api/studies/looked/look").json()
+    assert (answer["rows"], answer["size"], answer["rotation"]) == (5041, [20, 20, 10], 30)
+    assert answer["regions"] == ["NORTH", "SOUTH"]
+    assert answer["grades"] == ["CU", "AU"]
+    column = {each["name"]: each for each in answer["columns"]}
     cu = [float(row.split(",")[5]) for row in HILL.splitlines()[1:]]
     least, mean, most = column["CU"]["numbers"]
     assert (least, most) == (min(cu), max(cu))
@@ -210,53 +202,53 @@ def test_what_a_table_looks_like(desk):
         "",
     ]
     assert column["BLOCKID"]["told"][4].startswith("5,041, as ")
-    assert told["differs"] == []
+    assert answer["differs"] == []
     changed(desk, "looked", (["model", "size"], [20, 20, 5]), (["model", "absent"], ["-9"]))
     changed(desk, "looked", (["model", "rotation"], None))
     differs = desk.get("/api/studies/looked/look").json()["differs"]
     assert differs == [["size", [20, 20, 10]], ["rotation", 30], ["absent", ["-99"]]]
     assert column["ROCK"]["words"] == ["SUL", "OXI", "OVB"]
     assert column["CU"]["is"] == "grade"
-    assert told["init"]["economics"]["metals"][0]["price"] == 8500
+    assert answer["init"]["economics"]["metals"][0]["price"] == 8500
 
 
 def test_pictures_and_the_rose(desk):
     begun(desk, "drawn")
     for what in ("ground", "CU", "ROCK"):
-        told = desk.get(f"/api/studies/drawn/ground?what={what}")
-        assert told.headers["content-type"] == "image/png"
-        assert told.content[:4] == b"\x89PNG"
+        answer = desk.get(f"/api/studies/drawn/ground?what={what}")
+        assert answer.headers["content-type"] == "image/png"
+        assert answer.content[:4] == b"\x89PNG"
     no = desk.get("/api/studies/drawn/ground?what=NOWHERE").json()
     assert "there is no column 'NOWHERE'" in no["errors"][0]["said"]
-    told = desk.get("/api/studies/drawn/rose").json()
-    assert told["names"] == ["bearing", "asked", "built", "error"]
-    assert {row[1] for row in told["rows"]} == {"45.0"}
+    answer = desk.get("/api/studies/drawn/rose").json()
+    assert answer["names"] == ["bearing", "asked", "built", "error"]
+    assert {row[1] for row in answer["rows"]} == {"45.0"}
     ran = pitplan("slopes", desk.root / "drawn")
     lines = [line.split() for line in ran.stdout.splitlines()]
-    assert all(row in lines for row in told["rows"]), (ran.stdout, told)
-    assert all(line in ran.stdout for line in told["said"]), (ran.stdout, told)
-    walls = [[float(cell) for cell in row] for row in told["rows"]]
+    assert all(row in lines for row in answer["rows"]), (ran.stdout, answer)
+    assert all(line in ran.stdout for line in answer["said"]), (ran.stdout, answer)
+    walls = [[float(cell) for cell in row] for row in answer["rows"]]
     assert [wall[0] for wall in walls] == list(range(0, 360, 45))
     assert max(abs(built - 45) for _, _, built, _ in walls) < 1
     assert all(abs(built - asked - error) < 0.11 for _, asked, built, error in walls)
-    assert all(row[3][0] in "+-" for row in told["rows"])
-    told = desk.get("/api/studies/drawn/rose.png")
-    assert told.headers["content-type"] == "image/png"
-    assert told.content[:4] == b"\x89PNG"
+    assert all(row[3][0] in "+-" for row in answer["rows"])
+    answer = desk.get("/api/studies/drawn/rose.png")
+    assert answer.headers["content-type"] == "image/png"
+    assert answer.content[:4] == b"\x89PNG"
 
 
 def test_a_word_that_is_meant_otherwise_and_a_look_have_a_change_that_mends_them(desk):
     begun(desk, "meant")
     changed(desk, "meant", (["economics", "mining"], "2.0 + ZD / 100 + ZDX"))
-    told = desk.get("/api/studies/meant/check").json()["errors"]
+    answer = desk.get("/api/studies/meant/check").json()["errors"]
     right = {"key": ["economics", "mining"], "value": "2.0 + ZC / 100 + ZDX"}
-    assert [each["remedy"] for each in told] == [
+    assert [each["remedy"] for each in answer] == [
         {**right, "when": "", "adds": False, "other": None, "also": []}
     ]
     mill = ["OXl", "SUL"]
     changed(desk, "meant", (["economics", "mining"], 2.5), (["economics", "mill"], mill))
-    told = desk.get("/api/studies/meant/check").json()["errors"]
-    assert [each["remedy"]["value"] for each in told] == [["OXI", "SUL"]]
+    answer = desk.get("/api/studies/meant/check").json()["errors"]
+    assert [each["remedy"]["value"] for each in answer] == [["OXI", "SUL"]]
     changed(desk, "meant", (["economics", "mill"], None))
     price = (["economics", "metals", 0, "price"], 8.5), (["economics", "metals", 0, "selling"], 0.4)
     changed(desk, "meant", *price)
@@ -271,8 +263,8 @@ def test_a_word_that_is_meant_otherwise_and_a_look_have_a_change_that_mends_them
     }
 
 
-def metal(told, key):
-    return told.json()["values"]["economics"]["metals"][0][key]
+def metal(words, key):
+    return words.json()["values"]["economics"]["metals"][0][key]
 
 
 def test_what_is_typed_as_a_number_is_one_where_it_can_be_read_in_one_way(desk):
@@ -283,9 +275,9 @@ def test_what_is_typed_as_a_number_is_one_where_it_can_be_read_in_one_way(desk):
     assert metal(changed(desk, "read", ([*at, "price"], "9,250")), "price") == "9,250"
     assert metal(changed(desk, "read", ([*at, "name"], "1,5")), "name") == "1,5"
     angles = [[0, "38,5"], [180, 45]]
-    told = changed(desk, "read", (["slopes", "angles"], angles), (["model", "absent"], ["-9,5"]))
-    assert told.json()["values"]["slopes"]["angles"] == [[0, 38.5], [180, 45]]
-    assert told.json()["values"]["model"]["absent"] == ["-9,5"]
+    answer = changed(desk, "read", (["slopes", "angles"], angles), (["model", "absent"], ["-9,5"]))
+    assert answer.json()["values"]["slopes"]["angles"] == [[0, 38.5], [180, 45]]
+    assert answer.json()["values"]["model"]["absent"] == ["-9,5"]
     mining = ["economics", "mining"]
     assert changed(desk, "read", (mining, "2,5")).json()["values"]["economics"]["mining"] == 2.5
 
@@ -314,9 +306,9 @@ def test_ways_to_treat_a_block_are_added_one_after_the_other(desk, listed):
         changed(desk, name, (["economics", "processes"], [{"name": "mill", "cost": 9}]))
     at = ["economics", "processes"]
     for n in (len(listed and "12") or 1, len(listed and "123") or 2):
-        told = changed(desk, name, ([*at, n], {"name": f"process {n}", "cost": 4.0}))
-        assert told.status_code == 200, told.text
-        assert told.json()["values"]["economics"]["processes"][n]["name"] == f"process {n}"
+        answer = changed(desk, name, ([*at, n], {"name": f"process {n}", "cost": 4.0}))
+        assert answer.status_code == 200, answer.text
+        assert answer.json()["values"]["economics"]["processes"][n]["name"] == f"process {n}"
     assert "# mill = " in (study / "study.toml").read_text()  # and all else stands
 
 
@@ -326,11 +318,11 @@ def test_what_a_plan_by_years_refuses_is_told_as_check_does(desk):
     cutoff = (["schedule", "cutoff"], "by year"), (["schedule", "pushbacks"], [0.8, 0.4])
     changed(desk, "yearly", (["economics", "processes"], ways), *cutoff)
     changed(desk, "yearly", (["economics", "processing"], None), (["shells", "mill_rate"], None))
-    told = desk.get("/api/studies/yearly/check").json()["errors"]
+    answer = desk.get("/api/studies/yearly/check").json()["errors"]
     ran = pitplan("check", study)
-    assert [each["key"] for each in told] == [["schedule", "cutoff"], ["schedule", "pushbacks"]]
-    assert all(each["said"] in ran.stderr for each in told), ran.stderr
-    assert told[0]["remedy"]["value"] == "fixed"
+    assert [each["key"] for each in answer] == [["schedule", "pushbacks"]]
+    assert answer[0]["said"] in ran.stderr, ran.stderr
+    assert answer[0]["try"] == "pushbacks = [0.5, 0.75]"
 
 
 def test_a_table_that_is_corrected_is_noticed_and_its_rows_are_counted_anew(desk):
@@ -349,29 +341,13 @@ def test_a_table_that_is_corrected_is_noticed_and_its_rows_are_counted_anew(desk
 def test_what_is_missing_is_told_at_its_own_key_and_a_rate_of_a_mill_has_a_way_out(desk):
     begun(desk, "missing")
     changed(desk, "missing", (["economics", "mining"], None))
-    told = desk.get("/api/studies/missing/check").json()["errors"]
-    assert [each["key"] for each in told] == [["economics", "mining"]]
+    answer = desk.get("/api/studies/missing/check").json()["errors"]
+    assert [each["key"] for each in answer] == [["economics", "mining"]]
     ways = [{"name": "mill", "cost": 9}]
     changed(desk, "missing", (["economics", "mining"], 2), (["economics", "processes"], ways))
-    told = desk.get("/api/studies/missing/check").json()["errors"]
-    of_rate = next(each for each in told if each["key"] == ["shells", "mill_rate"])
+    answer = desk.get("/api/studies/missing/check").json()["errors"]
+    of_rate = next(each for each in answer if each["key"] == ["shells", "mill_rate"])
     assert of_rate["remedy"] == {**of_rate["remedy"], "key": ["shells", "mill_rate"], "value": None}
-
-
-def test_the_manual_is_served_and_nothing_beside_it(desk, tmp_path, monkeypatch):
-    site = tmp_path / "doc" / "manual"
-    site.mkdir(parents=True)
-    (site / "index.html").write_text("<p>the manual</p>")
-    (tmp_path / "doc" / "secret.html").write_text("secret")
-    (site / "away.html").symlink_to(tmp_path / "doc" / "secret.html")
-    monkeypatch.setattr(manual, "PLACES", (tmp_path / "no.html", site / "index.html"))
-    assert desk.get("/api/folder").json()["manual"] == "/manual/index.html"
-    assert "the manual" in desk.get("/manual/index.html").text
-    for path in ("away.html", "..%2fsecret.html", "%2e%2e/secret.html", "/etc/passwd", ""):
-        assert desk.get(f"/manual/{path}").status_code in (403, 404), path
-    monkeypatch.setattr(manual, "PLACES", ())
-    assert desk.get("/api/folder").json()["manual"] is None
-    assert desk.get("/manual/index.html").status_code == 404
 
 
 def test_a_stale_change_is_refused_and_another_key_is_not(desk):
@@ -402,9 +378,9 @@ def test_a_text_that_another_one_replaces_is_kept_where_it_is_asked_for(desk):
     for text, kept in (("a = 1\n", ""), ("b = 2\n", "-2"), (first, "-3"), ("a = 1\n", "")):
         there, etag = (study / "study.toml").read_text(), desk.get("/api/studies/kept").json()
         body = {"text": text, "etag": etag["pulse"]["etag"], "keeps": True}
-        told = desk.patch("/api/studies/kept", json=body).json()
-        assert told["kept"] == f"study.toml.before{kept}"
-        assert (study / told["kept"]).read_text() == there
+        answer = desk.patch("/api/studies/kept", json=body).json()
+        assert answer["kept"] == f"study.toml.before{kept}"
+        assert (study / answer["kept"]).read_text() == there
 
 
 def test_the_text_of_a_run_comes_in_place_of_the_one_that_stands_there(desk):
@@ -419,20 +395,20 @@ def test_the_text_of_a_run_comes_in_place_of_the_one_that_stands_there(desk):
     (run / "ended-0-0").touch()
     etag = desk.get("/api/studies/ran").json()["pulse"]["etag"]
     asked = {"run": 3, "etag": etag, "keeps": True}
-    told = desk.patch("/api/studies/ran", json=asked).json()
-    assert told["text"] == "# of then\n" + first
-    assert (study / told["kept"]).read_text() == first
+    answer = desk.patch("/api/studies/ran", json=asked).json()
+    assert answer["text"] == "# of then\n" + first
+    assert (study / answer["kept"]).read_text() == first
     assert desk.patch("/api/studies/ran", json=asked).status_code == 409
-    again = {"run": 4, "etag": told["pulse"]["etag"]}
+    again = {"run": 4, "etag": answer["pulse"]["etag"]}
     assert desk.patch("/api/studies/ran", json=again).status_code == 404
-    assert (study / "study.toml").read_text() == told["text"]
+    assert (study / "study.toml").read_text() == answer["text"]
 
 
 def test_a_text_that_is_no_toml_is_kept_and_told(desk):
     begun(desk, "broken")
-    told = desk.get("/api/studies/broken").json()
-    bad = told["text"].replace("rotation = 30", "rotation = = 30")
-    desk.patch("/api/studies/broken", json={"text": bad, "etag": told["pulse"]["etag"]})
+    answer = desk.get("/api/studies/broken").json()
+    bad = answer["text"].replace("rotation = 30", "rotation = = 30")
+    desk.patch("/api/studies/broken", json={"text": bad, "etag": answer["pulse"]["etag"]})
     found = desk.get("/api/studies/broken").json()
     assert found["values"] is None
     assert found["text"] == bad
@@ -445,116 +421,9 @@ def test_a_table_that_unpacks_to_far_too_much_is_refused(desk):
         file.write(b"XC,YC,ZC,SG,CU\n")
         for _ in range(100):
             file.write(b"0,0,0,2.5,0.00\n" * 70_000)
-    told = desk.post("/api/studies", json={"table": "bomb.csv.gz", "name": "bomb"}).json()
-    assert "unpacks to more than" in told["errors"][0]["said"], told
+    answer = desk.post("/api/studies", json={"table": "bomb.csv.gz", "name": "bomb"}).json()
+    assert "unpacks to more than" in answer["errors"][0]["said"], answer
     (desk.root / "bomb.csv.gz").unlink()
-
-
-def test_what_takes_too_long_is_ended_and_the_next_question_is_answered(tmp_path, monkeypatch):
-    monkeypatch.setattr(worker, "PATIENCE", 1)
-    ask = Worker(tmp_path)
-
-    async def both():
-        await asyncio.wrap_future(ask.begin().submit(len, "it is there"))
-        began, pids = time.monotonic(), list(ask.pool._processes)
-        late = await ask(time.sleep, 900)
-        took = time.monotonic() - began
-        monkeypatch.setattr(worker, "PATIENCE", 120)
-        return late, took, pids, await ask(len, "four")
-
-    late, took, pids, then = asyncio.run(both())
-    ask.end()
-    assert "longer than 1 seconds" in late["errors"][0]["said"]
-    assert took < 600
-    assert then == 4
-    assert len(pids) == 1
-    assert gone(pids)
-
-
-def test_a_process_that_wants_too_much_memory_says_so(tmp_path):
-    ask = Worker(tmp_path)
-    least, most = asyncio.run(ask(resource.getrlimit, resource.RLIMIT_AS))
-    ask.end()
-    whole = machine.whole_memory()
-    assert 0.5 * whole < least <= most < whole
-    told = worker.answered(lambda: len(bytearray(1 << 60)))  # as a larger table would
-    assert told["errors"][0]["said"] == "memory was refused"
-
-
-def test_a_process_takes_no_more_than_the_control_group_of_the_desk_may(tmp_path, monkeypatch):
-    """As in a container of 4 gigabytes on a machine of 64."""
-    (tmp_path / "own").write_text("0::/\n")
-    (tmp_path / "memory.max").write_text("4000000000\n")
-    (tmp_path / "meminfo").write_text("MemTotal:   62500000 kB\n")
-    seen = functools.partial(machine.whole_memory, tmp_path, tmp_path / "own", tmp_path / "meminfo")
-    set_to = []
-    monkeypatch.chdir(tmp_path)
-    monkeypatch.setattr(worker, "whole_memory", seen)
-    monkeypatch.setattr(worker, "only_within", lambda root: None)
-    monkeypatch.setattr(worker, "_end_with_the_desk", lambda: None)
-    monkeypatch.setattr(resource, "setrlimit", lambda kind, limits: set_to.append((kind, limits)))
-    worker.settle(tmp_path)
-    [(kind, (least, most))] = set_to
-    assert kind == resource.RLIMIT_AS
-    assert 2 * 10**9 < least <= most < 4 * 10**9
-
-
-def test_a_process_that_was_killed_costs_no_question(tmp_path):
-    ask = Worker(tmp_path)
-
-    async def both():
-        first = await ask(os.getpid)
-        os.kill(first, signal.SIGKILL)
-        return first, await ask(os.getpid)
-
-    first, second = asyncio.run(both())
-    ask.end()
-    assert isinstance(second, int)
-    assert second != first
-    assert gone([first], 20)
-
-
-ENDS = """
-def ends(path):
-    import os
-    with open(path, "a") as marks:
-        marks.write("x\\n")
-    os._exit(9)
-"""
-
-
-def test_a_question_that_ends_its_process_is_asked_twice_alone_and_told(tmp_path, monkeypatch):
-    (tmp_path / "deadly.py").write_text(ENDS)
-    monkeypatch.syspath_prepend(str(tmp_path))
-    from deadly import ends
-
-    ask = Worker(tmp_path)
-
-    async def both():
-        return await ask(ends, str(tmp_path / "marks")), await ask(len, "four")
-
-    dead, then = asyncio.run(both())
-    ask.end()
-    assert "was ended" in dead["errors"][0]["said"]
-    assert then == 4
-    assert (tmp_path / "marks").read_text() == "x\n" * 2
-
-
-def test_a_question_behind_one_that_takes_too_long_is_answered(tmp_path, monkeypatch):
-    monkeypatch.setattr(worker, "PATIENCE", 5)
-    ask = Worker(tmp_path)
-
-    async def both():
-        await asyncio.wrap_future(ask.begin().submit(len, "it is there"))
-        slow = asyncio.create_task(ask(time.sleep, 60))
-        await asyncio.sleep(2)
-        monkeypatch.setattr(worker, "PATIENCE", 120)
-        return await asyncio.gather(slow, ask(len, "four"))
-
-    late, then = asyncio.run(both())
-    ask.end()
-    assert "longer than" in late["errors"][0]["said"]
-    assert then == 4
 
 
 def test_a_design_is_looked_at_when_it_comes(desk):
@@ -565,9 +434,9 @@ def test_a_design_is_looked_at_when_it_comes(desk):
     text = io.StringIO()
     outlines.write(text)
     at = "/api/studies/designed/designs"
-    told = desk.put(f"{at}/lines.dxf", content=text.getvalue().encode())
-    assert told.status_code == 422
-    error = told.json()["errors"][0]
+    answer = desk.put(f"{at}/lines.dxf", content=text.getvalue().encode())
+    assert answer.status_code == 422
+    error = answer.json()["errors"][0]
     assert error["said"] == "lines.dxf: has no faces, but LWPOLYLINE"
     assert "triangulate it" in error["try"]
     assert desk.put(f"{at}/none.dxf", content=b"no DXF").status_code == 422
@@ -592,9 +461,9 @@ def test_ids_are_held_against_the_table_before_a_build(desk):
         ("letter.txt", b"Dear all,\nthe pit is late.\n", "letter.txt, row 2: 'the pit is late.'"),
         ("ids.csv", b"BLOCKID\nH00001\nH99999\n", "ids.csv, row 3: 'H99999'"),
     ):
-        told = desk.put(f"{at}/{name}", content=content)
-        assert told.status_code == 422, name
-        error = told.json()["errors"][0]
+        answer = desk.put(f"{at}/{name}", content=content)
+        assert answer.status_code == 422, name
+        error = answer.json()["errors"][0]
         assert error["said"].startswith(f"{row} is the id of no block"), error
         assert error["try"] == "ids as in column BLOCKID of the table"
     assert not list((study / "designs").iterdir())
@@ -614,9 +483,9 @@ def test_what_pitplan_has_written_and_what_is_nonsense_is_no_design(desk):
         ("noise.txt", bytes(range(256)), "is neither a text nor a DXF"),
         ("letter.txt", b"Dear all,\nthe pit is late.\n", "is the id of no block"),
     ):
-        told = desk.put(f"{at}/{name}", content=content)
-        assert told.status_code == 422, name
-        assert words in told.json()["errors"][0]["said"], name
+        answer = desk.put(f"{at}/{name}", content=content)
+        assert answer.status_code == 422, name
+        assert words in answer.json()["errors"][0]["said"], name
     ids = [row.split(",")[0] for row in HILL.splitlines()[1:4]]
     assert desk.put(f"{at}/ids.txt", content="\n".join(ids).encode()).json()["as"] == "ids"
 
@@ -640,18 +509,18 @@ def test_a_refusal_says_who_was_first_and_calls_a_key_as_its_field(desk):
 def test_what_is_nested_too_deep_is_told_so(desk):
     study = begun(desk, "deep")
     deep = "[" * 20_000 + "]" * 20_000
-    told = desk.patch(
+    answer = desk.patch(
         "/api/studies/deep", content=deep, headers={"content-type": "application/json"}
     )
-    assert told.status_code == 400
-    assert told.json()["errors"][0]["what"].endswith("too deep")
+    assert answer.status_code == 400
+    assert answer.json()["errors"][0]["what"].endswith("too deep")
     (study / "study.toml").write_text(f"[model]\ntable = {deep}\n")
     assert desk.get("/api/studies/deep").json()["values"] is None
-    told = desk.get("/api/studies/deep/check").json()["errors"]
-    assert [error["what"] for error in told] == ["isn't TOML: it is nested too deep"]
-    told = changed(desk, "deep", (["slopes", "angles"], 44))
-    assert told.status_code == 400
-    assert "nested too deep" in told.json()["errors"][0]["said"]
+    answer = desk.get("/api/studies/deep/check").json()["errors"]
+    assert [error["what"] for error in answer] == ["isn't TOML: it is nested too deep"]
+    answer = changed(desk, "deep", (["slopes", "angles"], 44))
+    assert answer.status_code == 400
+    assert "nested too deep" in answer.json()["errors"][0]["said"]
     assert all("recursion" not in str(desk.get(f"/api/studies/deep/{it}").json()) for it in ASKED)
 
 

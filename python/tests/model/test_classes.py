@@ -1,4 +1,5 @@
-"""Resource classes: tables by class against pandas and plain loops over the planner's table; what is inferred as waste."""
+"""Resource classes: tables by class against pandas and plain loops over the planner's table; what
+is inferred as waste."""
 import subprocess
 import sys
 from collections import defaultdict
@@ -41,7 +42,8 @@ def shells(frame, tmp_path_factory):
 
 
 def by_hand(rows):
-    """Rock, ore, grade and metal by class of some rows of the table, block by block, by the prices and costs of `mines.costs`."""
+    """Rock, ore, grade and metal by class of some rows of the table, block by block, by the prices
+    and costs of `mines.costs`."""
     found = defaultdict(lambda: {"rock_t": 0.0, "ore_t": 0.0, "graded": 0.0, "metal_copper": 0.0})
     for row in rows.itertuples():
         kind = found[row.CLASS.strip() or "none"]
@@ -137,9 +139,9 @@ def test_a_comparison_and_the_page_have_classes(frame, shells, tmp_path):
         ("design alone", held & ~shells.holds(1)),
         ("best pit alone", shells.holds(1) & ~held),
     ):
-        told, ids = found[found["in"] == kind], set(b["id"][mask])
+        texts, ids = found[found["in"] == kind], set(b["id"][mask])
         for name, amounts in by_hand(frame[frame.IJK.isin(ids)]).items():
-            part = told[told["class"] == name]
+            part = texts[texts["class"] == name]
             assert part.rock_t.sum() == pytest.approx(amounts["rock_t"]), (kind, name)
             assert part[part.to == "mill"].rock_t.sum() == pytest.approx(amounts["ore_t"])
     (shown,) = page_views.pits(shells, shells.table()).more
@@ -154,7 +156,8 @@ def test_a_comparison_and_the_page_have_classes(frame, shells, tmp_path):
 
 
 def test_inferred_as_waste_is_as_if_it_had_no_metal(frame, tmp_path):
-    """The same pit, to the dollar, as of a table whose inferred blocks have no copper; they are dug as waste."""
+    """The same pit, to the dollar, as of a table whose inferred blocks have no copper; they are dug
+    as waste."""
     for name in "ab":
         (tmp_path / name).mkdir()
     wasted = study_of(tmp_path / "a", frame, economics=costs(waste_classes=["INFERRED"]))
@@ -224,7 +227,8 @@ CLASSES = STUDY_TOML.replace("mining = 2.0", 'mining = 2.0\nwaste_classes = ["3"
 
 
 def test_a_bundle_is_checked_by_the_same_classes(tmp_path):
-    """Numbers as classes, some written 3.0; and a study.toml that calls another class waste doesn't hold."""
+    """Numbers as classes, some written 3.0; and a study.toml that calls another class waste doesn't
+    hold."""
     frame = table(7, 6, 4, 3)
     frame["KIND"] = np.random.default_rng(2).choice(["1", "2", "3.0", "3", ""], len(frame))
     folder = bundled(tmp_path, CLASSES, frame)
@@ -243,8 +247,8 @@ def test_a_bundle_is_checked_by_the_same_classes(tmp_path):
     said, status = rechecked()
     assert status == 0, said
     assert "everything that was looked at holds" in said, said
-    told = folder / "study.toml"
-    told.write_text(told.read_text().replace('waste_classes = ["3"]', 'waste_classes = ["2"]'))
+    found = folder / "study.toml"
+    found.write_text(found.read_text().replace('waste_classes = ["3"]', 'waste_classes = ["2"]'))
     said, status = rechecked()
     assert status == 1
     assert "WRONG   what each block brings and costs" in said
@@ -272,7 +276,7 @@ def test_of_sub_blocks_the_class_is_that_of_the_most_tonnes(tmp_path):
     assert sorted(kinds.tolist()) == ["2"] * (len(kinds) - 1) + ["3"]
     (one,) = np.flatnonzero(kinds == "3")
     assert study.model.blocks.tonnes[one] == 10000
-    assert study.priced.revenue[one] == 0
+    assert study.priced.ways[0].revenue[one] == 0
 
 
 def test_wrong_classes_are_told(tmp_path):
@@ -323,7 +327,8 @@ def test_commands_tell_of_classes(tmp_path):
 
 
 def test_classes_come_by_how_well_they_are_known():
-    """Measured, indicated, inferred wherever the word stands, then those that study.toml lists, then the others."""
+    """Measured, indicated, inferred wherever the word stands, then those that study.toml lists,
+    then the others."""
     words = ["POT", "3-INFERRED", "none", "Blue", "RES_MEA", "Zinc", "IND"]
     assert sorted(words, key=rank) == [
         "RES_MEA",
@@ -390,7 +395,8 @@ def test_realisations_have_the_tonnes_of_each_class(frame, tmp_path):
 
 
 def test_what_ifs_have_the_tonnes_of_each_class(frame, tmp_path):
-    """On the screen and in the file, by the pit that each what-if has; without classes there is no such table."""
+    """On the screen and in the file, by the pit that each what-if has; without classes there is no
+    such table."""
     folder = written_study(tmp_path / "s", frame)
     for words in (["build"], ["shells"]):
         assert pitplan(*words, folder).returncode == 0

@@ -1,14 +1,12 @@
 """What blocks bring and cost, against sums made here."""
 import tomllib
-from decimal import Decimal
 
 import numpy as np
 import pandas as pd
 import pytest
 
 import pitplan as pp
-from mines import COPPER, STUDY_TOML, costs, model_of, refusal, table, written_study
-from pitplan.cli import build as commands_build
+from mines import COPPER, costs, model_of, refusal, table
 from pitplan.base.units import metal_in_a_tonne
 
 
@@ -57,12 +55,14 @@ def test_two_metals_with_everything(frame, model):
         kept = row.TONNES * 0.95
         pounds = kept * row.CU / 100 * {"OXI": 0.6, "SUL": 0.9}[row.ROCK] / 0.00045359237
         ounces = kept * row.AU / 31.1034768 * (0.6 if row.AU > 0.1 else 0.5)
-        assert priced.metal["copper"][b] == pytest.approx(pounds)
-        assert priced.metal["gold"][b] == pytest.approx(ounces)
-        assert abs(priced.revenue[b] - (pounds * 4.0 * 0.965 + ounces * 1900 * 0.98)) <= 0.501
+        assert priced.ways[0].metal["copper"][b] == pytest.approx(pounds)
+        assert priced.ways[0].metal["gold"][b] == pytest.approx(ounces)
+        assert (
+            abs(priced.ways[0].revenue[b] - (pounds * 4.0 * 0.965 + ounces * 1900 * 0.98)) <= 0.501
+        )
         assert (
             abs(
-                priced.processing[b]
+                priced.ways[0].processing[b]
                 - (kept * 1.05 * {"OXI": 7.5, "SUL": 9.0}[row.ROCK] + pounds * 0.35 + ounces * 6)
             )
             <= 0.501
@@ -151,13 +151,14 @@ def test_the_row_of_a_wrong_cost_is_told(frame, model):
 
 def test_the_mill_takes_some_rocks(frame, model):
     priced = costs(mill=["SUL"]).priced(model)
-    assert (priced.revenue[frame.ROCK == "OXI"] == 0).all()
-    assert (priced.processing[frame.ROCK == "OXI"] == 0).all()
-    assert priced.revenue[frame.ROCK == "SUL"].sum() > 0
+    assert (priced.ways[0].revenue[frame.ROCK == "OXI"] == 0).all()
+    assert (priced.ways[0].processing[frame.ROCK == "OXI"] == 0).all()
+    assert priced.ways[0].revenue[frame.ROCK == "SUL"].sum() > 0
 
 
 def test_forbid_keeps_no_air(frame):
-    """Nothing is dug of a row without tonnes: what leads through the air above a corridor may be dug."""
+    """Nothing is dug of a row without tonnes: what leads through the air above a corridor may be
+    dug."""
     light = frame.assign(TONNES=frame.TONNES.where(frame.ZC < 140, 0.0))
     priced = costs(forbid=["XC > 5030"]).priced(model_of(light))
     assert (priced.forbidden == (frame.XC > 5030) & (frame.ZC < 140)).all()
@@ -168,29 +169,11 @@ def test_forbid_keeps_no_air(frame):
 def test_what_may_not_be_dug_is_what_forbid_says_and_no_price(frame, model):
     first = frame.IJK.iloc[0]
     dear = costs(mining=f"where(IJK == '{first}', 1e6, 2)").priced(model)
-    assert dear.mining[0] > 2 * dear.revenue.sum() > 0
+    assert dear.mining[0] > 2 * dear.ways[0].revenue.sum() > 0
     assert not dear.forbidden.any()
     poor = costs(metals=(pp.Metal("copper", "CU", price=0),), forbid=["ZC < 110"]).priced(model)
-    assert poor.revenue.sum() == 0
+    assert poor.ways[0].revenue.sum() == 0
     assert (poor.forbidden == (frame.ZC < 110)).all()
-
-
-def test_amounts_too_large_for_the_rounding_are_told_by_build(tmp_path):
-    """Before any pit is looked for, and with a rounding that does."""
-    text = STUDY_TOML.replace("price = 8500", "price = 8.5e8").replace(
-        "mining = 2.0", "mining = 2.0\nrounding = 0.000001"
-    )
-    folder = written_study(tmp_path / "s", text=text)
-    with pytest.raises(pp.PlanError, match="too large to count with in units of 0.000001") as told:
-        commands_build.build(folder)
-    found = told.value.try_this.split(" in ")[0]
-    (folder / "study.toml").write_text(text.replace("rounding = 0.000001", found))
-    commands_build.build(folder)
-    (folder / "study.toml").write_text(
-        text.replace("rounding = 0.000001", f"rounding = {Decimal(found.split()[-1]) / 10:f}")
-    )
-    with pytest.raises(pp.PlanError, match="too large"):
-        commands_build.build(folder)
 
 
 @pytest.mark.parametrize(
@@ -259,15 +242,15 @@ def test_a_penalty_element(frame):
     by_kilogram, by_concentrate = costs(metals=(COPPER, ARSENIC)).priced(dirty), costs(
         processing=BY_CONCENTRATE
     ).priced(dirty)
-    assert by_kilogram.metal["arsenic"].tolist() == pytest.approx([18000, 900, 900])
-    assert by_kilogram.processing.tolist() == [135000, 92250, 92250]
-    assert by_concentrate.processing.tolist() == [133429, 90000, 92250]
+    assert by_kilogram.ways[0].metal["arsenic"].tolist() == pytest.approx([18000, 900, 900])
+    assert by_kilogram.ways[0].processing.tolist() == [135000, 92250, 92250]
+    assert by_concentrate.ways[0].processing.tolist() == [133429, 90000, 92250]
     for priced in (by_kilogram, by_concentrate):
-        assert priced.revenue.tolist() == [722500, 2023000, 0]
+        assert priced.ways[0].revenue.tolist() == [722500, 2023000, 0]
         assert priced.treated(1000).tolist() == [True, True, False]
         assert (priced.thousandths(500) + priced.mining * 1000).tolist() == [
-            361250000 - priced.processing[0] * 1000,
-            1011500000 - priced.processing[1] * 1000,
+            361250000 - priced.ways[0].processing[0] * 1000,
+            1011500000 - priced.ways[0].processing[1] * 1000,
             0,
         ]  # the factor is of the price alone
     assert "try: price = 0, selling = 2.5, if it is a penalty" in refusal(
@@ -276,7 +259,11 @@ def test_a_penalty_element(frame):
     diluted = costs(processing=f"9.0 + ({BY_CONCENTRATE} - 9.0) / 1.25", dilution=0.25).priced(
         dirty
     )  # the feed is leaner, and there is more of it
-    assert (diluted.processing - by_concentrate.processing).tolist() == [22500, 22500, 22500]
+    assert (diluted.ways[0].processing - by_concentrate.ways[0].processing).tolist() == [
+        22500,
+        22500,
+        22500,
+    ]
 
 
 def test_a_rock_that_no_block_has_is_told(tmp_path):

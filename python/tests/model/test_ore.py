@@ -1,5 +1,5 @@
-"""The percent of a block's tonnes that is ore: that part alone has grades and goes to the mill; the rest is dug with it as waste. All figures
-are added up from the table in loops."""
+"""The percent of a block's tonnes that is ore: that part alone has grades and goes to the mill; the
+rest is dug with it as waste. All figures are added up from the table in loops."""
 import dataclasses
 import hashlib
 import subprocess
@@ -12,10 +12,10 @@ import pytest
 import pitplan as pp
 from bundles import bundled
 from mines import SIZE, STUDY_TOML, costs, study_of, table
-from pitplan.model import tonnage
+from pitplan.model import grade_tonnage
 from pitplan.plans import compare, design, risk
+from pitplan.study import pit_by_pit
 from pitplan.study.reserves import reserves
-from pitplan.views import page_views
 from realisations import done
 
 FRAME = table(8, 7, 5, 5).assign(OREPCT=lambda f: [(7 * at) % 101 for at in range(len(f))])
@@ -52,10 +52,10 @@ def study(tmp_path_factory):
 def test_amounts_of_each_block(study):
     for at, row in enumerate(FRAME.to_dict("records")):
         brings, treating, digging, _, copper = worked(row)
-        assert study.priced.revenue[at] == brings
-        assert study.priced.processing[at] == treating
+        assert study.priced.ways[0].revenue[at] == brings
+        assert study.priced.ways[0].processing[at] == treating
         assert study.priced.mining[at] == digging
-        assert study.priced.metal["copper"][at] == pytest.approx(copper)
+        assert study.priced.ways[0].metal["copper"][at] == pytest.approx(copper)
 
 
 def test_tables_have_the_ore_of_the_part_alone(study):
@@ -72,12 +72,12 @@ def test_tables_have_the_ore_of_the_part_alone(study):
         assert line["grade_copper"] == pytest.approx(grade)
         assert line["metal_copper"] == pytest.approx(copper)
         assert line["worth_at_base"] == worth
-        (page,) = page_views.amounts_of(study, [shells.holds(i)], 1000).to_dict("records")
+        (page,) = pit_by_pit.amounts_of(study, [shells.holds(i)], 1000).to_dict("records")
         assert page["ore_t"] == pytest.approx(ore)
         assert page["grade_copper"] == pytest.approx(grade)
     benches = shells.benches()
     assert benches.ore_t.sum() == pytest.approx(found.ore_t.iloc[-1])
-    lines = tonnage.by_rock(study.model, study.priced, study.manifest["metals"])
+    lines = grade_tonnage.by_rock(study.model, study.priced, study.manifest["metals"])
     for name in ("OXI", "SUL"):
         _, ore, grade, copper, _ = sums(row for row in rows if row["ROCK"] == name)
         line = lines[lines.rock == name].iloc[0]
@@ -87,7 +87,8 @@ def test_tables_have_the_ore_of_the_part_alone(study):
 
 
 def test_reserves_part_the_ore_from_what_is_dug_with_it(study):
-    """By rock and way: the part that is ore goes to the mill, the rest of its block is waste without metal."""
+    """By rock and way: the part that is ore goes to the mill, the rest of its block is waste
+    without metal."""
     shells = study.shells([600, 1000, 1200])
     inside = [row for row, dug in zip(FRAME.to_dict("records"), shells.holds(1)) if dug]
     found = reserves(study, {"pit": shells.holds(1).astype(int)})

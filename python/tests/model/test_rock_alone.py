@@ -1,4 +1,5 @@
-"""Rows of air count as air: pushbacks, exported files and pictures are those of a table that has none."""
+"""Rows of air count as air: pushbacks, exported files and pictures are those of a table that has
+none."""
 import ezdxf
 import numpy as np
 import pandas as pd
@@ -18,7 +19,8 @@ from pitplan.plans.phases import Phases
 
 @pytest.fixture(scope="module")
 def both(tmp_path_factory):
-    """The shells of a gentle hill twice: of a table without rows of air, and of one with rows of air up to the model's top."""
+    """The shells of a gentle hill twice: of a table without rows of air, and of one with rows of
+    air up to the model's top."""
     f = below(1, low=6).assign(CU=lambda f: (f.CU / 9).round(2))
     every = []
     for frame in (f[f.TONNES > 0], f):

@@ -1,4 +1,5 @@
-"""Tonnes by a formula and by the percent of a block that is rock: each study is the one whose tonnes were worked out in loops."""
+"""Tonnes by a formula and by the percent of a block that is rock: each study is the one whose
+tonnes were worked out in loops."""
 import hashlib
 import json
 import re
@@ -115,8 +116,8 @@ def test_a_hint_of_a_column_names_those_that_are_known_too(tmp_path):
     with pytest.raises(pp.PlanError) as error:
         pp.read_table(tmp_path / "t.csv", size=SIZE, columns={"x": "este"})
     found = re.search(r"(columns = .*) in \[model\]", str(error.value))[1]
-    told = tomllib.loads(found.replace("...", "weight"))["columns"]
-    assert told == {**told, "x": "este", "y": "YC", "z": "ZC", "tonnes": "weight"}
+    facts = tomllib.loads(found.replace("...", "weight"))["columns"]
+    assert facts == {**facts, "x": "este", "y": "YC", "z": "ZC", "tonnes": "weight"}
 
 
 def test_a_mark_counts_only_where_the_formula_reads_it(tmp_path):
@@ -179,7 +180,8 @@ def sums(folder):
 
 
 def in_parts():
-    """A mine whose blocks of the lower benches are cut into two sub-blocks of 9 and 6 m, each with a density, a grade and a part that is rock."""
+    """A mine whose blocks of the lower benches are cut into two sub-blocks of 9 and 6 m, each with
+    a density, a grade and a part that is rock."""
     r = np.random.default_rng(7)
     whole = table(6, 5, 4, 3).drop(columns="TONNES").assign(XINC=20.0, YINC=20.0, ZINC=15.0)
     cut = whole[whole.ZC < 120]
@@ -207,7 +209,8 @@ def in_parts():
     ],
 )
 def test_sub_blocks_are_weighed_and_added_up(tmp_path, keys, weigh):
-    """By pandas: the tonnes of each block are the sum of those of its parts, its grade their mean by tonnes."""
+    """By pandas: the tonnes of each block are the sum of those of its parts, its grade their mean
+    by tonnes."""
     frame = in_parts()
     frame.to_csv(tmp_path / "t.csv", index=False)
     model = pp.read_table(tmp_path / "t.csv", size=SIZE, regularise=True, **keys)
@@ -236,7 +239,7 @@ def test_a_bundle_of_weighed_sub_blocks_is_worked_out_again(tmp_path, program):
     path = folder / "table" / "t.csv"
     rows = pd.read_csv(path)
     at = int(rows.index[(rows.ZINC == 6) & (rows.ROCK == "SUL")][0])
-    for name, value, told in (
+    for name, value, shown in (
         ("SG", 9.0, "the tonnage of each block"),
         ("TOPO", 3, "the tonnage of each block"),
         ("CU", 2.5, "what each block brings and costs"),
@@ -245,4 +248,4 @@ def test_a_bundle_of_weighed_sub_blocks_is_worked_out_again(tmp_path, program):
         sums(folder)
         found = rechecked(folder, program)
         assert found.returncode == 1, (name, found.stdout)
-        assert told in found.stdout, (name, found.stdout)
+        assert shown in found.stdout, (name, found.stdout)

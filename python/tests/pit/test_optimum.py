@@ -1,4 +1,5 @@
-"""The pits of random small mines against igraph's maximum flow, over a network that is made here from the CSV alone."""
+"""The pits of random small mines against igraph's maximum flow, over a network that is made here
+from the CSV alone."""
 
 import igraph
 import numpy as np
@@ -12,7 +13,8 @@ SIZES = st.integers(2, 6)
 
 
 def worth_of(row, share):
-    """What a block is worth at a share of the price, in whole dollars at the full price: by hand, as the tests' costs say."""
+    """What a block is worth at a share of the price, in whole dollars at the full price: by hand,
+    as the tests' costs say."""
     tonnes = float(row["TONNES"])
     revenue = round(tonnes * float(row["CU"]) * 0.01 * 0.85 * 8500)
     processing = round(tonnes * {"OXI": 7.5, "SUL": 9.0}[row["ROCK"]])
@@ -69,7 +71,8 @@ def test_with_regions_too(tmp_path_factory, nx, ny, nz, seed):
 
 
 def with_a_penalty(row, share):
-    """`worth_of` where each kilogram of arsenic in the concentrate costs 2.50, whatever copper brings."""
+    """`worth_of` where each kilogram of arsenic in the concentrate costs 2.50, whatever copper
+    brings."""
     tonnes = float(row["TONNES"])
     revenue = round(tonnes * float(row["CU"]) * 0.01 * 0.85 * 8500)
     processing = round(

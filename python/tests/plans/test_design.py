@@ -30,6 +30,12 @@ def test_designs_by_ids(tmp_path, study):
         found = design.by_ids_of(model, tmp_path / name)
         assert (found.held == held).all()
         assert found.name == name.split(".")[0]
+    for text in (f"{ids.iloc[0]}\n", ids.iloc[0], f"{ids.iloc[0]}\r\n\n"):
+        (tmp_path / "one.txt").write_bytes(text.encode())
+        assert design.by_ids_of(model, tmp_path / "one.txt").held.sum() == 1
+    (tmp_path / "one.txt").write_text("b9999\n")
+    with pytest.raises(pp.PlanError, match="has no rows below its header line"):
+        design.by_ids_of(model, tmp_path / "one.txt")
     pd.DataFrame({"IJK": ids, "DISEÑO": "sí"}).to_csv(
         tmp_path / "ansi.csv", index=False, sep=";", encoding="cp1252"
     )

@@ -30,7 +30,8 @@ def mine(tmp_path_factory):
 
 
 def told_by_pandas(phases, f):
-    """The planner's own table, with what each block's pushback, ore, metal and worth are by the formulas of the docs."""
+    """The planner's own table, with what each block's pushback, ore, metal and worth are by the
+    formulas of the docs."""
     f = f.copy()
     first = pd.Series(0, index=f.index)
     for n, factor in reversed(list(enumerate(SERIES))):
@@ -136,55 +137,23 @@ def test_pits_that_are_the_same_are_no_pushbacks(tmp_path):
         Phases(study.shells([1000]), mining_width=-1)
 
 
-def test_the_command(tmp_path):
-    study = written_study(tmp_path / "s")
-    assert pitplan("build", study).returncode == 0
-    assert pitplan("shells", study).returncode == 0
-    ran = pitplan("phases", study, "0.6,1.0", "--mining-width", "60")
-    assert ran.returncode == 0, ran.stderr
-    assert "pushbacks" in ran.stdout, ran.stderr
-    phases, benches = pd.read_csv(study / "out/phases.csv"), pd.read_csv(
-        study / "out/phase_benches.csv"
-    )
-    pits = pd.read_csv(study / "out/pit_by_pit.csv")
-    assert phases.factor.tolist() == [0.6, 1.0]
-    assert phases.worth.sum() == pits.worth_at_base[1]
-    assert benches.blocks.sum() == pits.blocks[1]
-    thin = benches[benches.narrow_blocks > 0]
-    lines = ran.stderr.splitlines()
-    for pushback, part in thin.groupby("pushback"):
-        told = next(
-            lines[i + 1]
-            for i, line in enumerate(lines)
-            if line.startswith(f"look: pushback {pushback} ")
-        )
-        order = sorted(part.itertuples(), key=lambda row: (row.width, -row.narrow_blocks))
-        for i, row in enumerate(order):
-            assert (
-                f"{row.bench:g} ({row.width:g} m, {row.narrow_blocks:,} block{'s' if row.narrow_blocks > 1 else ''})"
-                in told
-            ) == (i < 3)
-        assert (f"are the worst; {study}/out/phase_benches.csv has all" in told) == (len(order) > 3)
-    assert thin.pushback.value_counts().max() > 3
-    assert (
-        pd.read_csv(study / "out/phase_blocks.csv").pushback.value_counts().sort_index().tolist()
-        == phases.blocks.tolist()
-    )
-    wide = pitplan("phases", study, "0.6,1.0", "--mining-width", "1")
-    assert "at least 1 m wide" in wide.stdout
-    assert wide.stderr == ""
-    for words, said in (
-        (("1.0,0.6",), "ascending"),
-        (("0.6,0.7",), "the nearest that have are 0.6, 1"),
-        (("0.6;1",), "no factor"),
-    ):
-        wrong = pitplan("phases", study, *words)
-        assert wrong.returncode == 3, wrong.stderr
-        assert said in wrong.stderr, wrong.stderr
+def test_elevations_of_all_have_the_decimals_of_each(tmp_path):
+    """Benches of 7.5 m between 97.5 and 135: the second pushback begins a bench below the first."""
+    frame = table(9, 8, 5, 4, size=(20, 20, 7.5))
+    text = STUDY_TOML.replace("size = [20, 20, 15]", "size = [20, 20, 7.5]")
+    folder = written_study(tmp_path / "s", frame.assign(ZC=frame.ZC + 1.25), text)
+    for words in (("build", folder), ("shells", folder)):
+        assert pitplan(*words).returncode == 0
+    ran = pitplan("phases", folder, "0.6,1.0")
+    rows = [line.split() for line in ran.stdout.splitlines()]
+    tops = [row[2] for row in rows if row[:1] in (["1"], ["2"]) and row[1] in ("0.6", "1.0", "1")]
+    assert sorted(tops) == ["127.5", "135.0"], ran.stdout + ran.stderr
+    assert [row[1:3] for row in rows if row[:1] == ["all"]] == [["135.0", "97.5"]]
 
 
 def test_no_figure_of_the_table_is_cut_off(tmp_path):
-    """Of three metals, of which there is much: a table that is wider than what a screen of 160 letters takes with gaps."""
+    """Of three metals, of which there is much: a table that is wider than what a screen of 160
+    letters takes with gaps."""
     more = "".join(
         f'{{ name = "{name}", grade = "CU", grade_unit = "kg/t", price = 0.01, price_unit = "g", recovery = 0.85 }}, '
         for name in ("antimony", "tellurium", "ytterbium")

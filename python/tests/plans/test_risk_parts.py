@@ -1,4 +1,5 @@
-"""Realisations over sub-blocks: each is the study of whole blocks whose grades were added up in loops."""
+"""Realisations over sub-blocks: each is the study of whole blocks whose grades were added up in
+loops."""
 import dataclasses
 
 import numpy as np
@@ -18,7 +19,8 @@ ECONOMICS = costs(
 
 
 def parted(seed=5):
-    """A mine of which every third block is two sub-blocks, one of a quarter of its height, that weigh differently; its rows shuffled."""
+    """A mine of which every third block is two sub-blocks, one of a quarter of its height, that
+    weigh differently; its rows shuffled."""
     rows = []
     for at, row in enumerate(table(8, 7, 5, seed).to_dict("records")):
         row |= {"DX": 20.0, "DY": 20.0, "DZ": 15.0}

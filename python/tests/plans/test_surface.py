@@ -12,7 +12,8 @@ from pitplan.plans import surface
 
 
 def tower(height, times, holds_face):
-    """A block that has so many of another, that of the next, and so on down to a face, or to nothing."""
+    """A block that has so many of another, that of the next, and so on down to a face, or to
+    nothing."""
     document = ezdxf.new("R2010")
     for level in range(height):
         block = document.blocks.new(f"B{level}")
@@ -54,7 +55,7 @@ def holding_itself():
 def test_a_dxf_whose_blocks_never_end_or_that_leads_to_infinity_is_refused(
     tmp_path, monkeypatch, made, said
 ):
-    monkeypatch.setattr(surface, "MOST", 3000)
+    monkeypatch.setattr(surface, "MOST_ENTITIES", 3000)
     made().saveas(tmp_path / "d.dxf")
     with pytest.raises(pp.PlanError, match=said):
         surface.of_dxf(tmp_path / "d.dxf")
@@ -66,7 +67,7 @@ def test_faces_of_a_dxf_within_blocks_within_blocks_count(tmp_path, monkeypatch)
     for i in range(400):
         document.modelspace().add_3dface([(i, 5, 0), (i + 1, 5, 0), (i, 6, 0)])
     document.saveas(tmp_path / "d.dxf")
-    monkeypatch.setattr(surface, "MOST", 350)
+    monkeypatch.setattr(surface, "MOST_ENTITIES", 350)
     assert len(surface.of_dxf(tmp_path / "d.dxf").triangles) == 500
 
 

@@ -3,17 +3,14 @@ import dataclasses
 import re
 
 import numpy as np
-import pandas as pd
 import pytest
 
 import pitplan as pp
-from mines import COPPER, costs, study_of, table, written_study
-from pitplan.cli.vary import _warn_of_edges as edges_told
-from pitplan.study import edges, pit_by_pit
+from mines import COPPER, costs, study_of, table
+from pitplan.study import pit_by_pit
 from pitplan.plans import vary
-from pitplan.tasks.task import Tasks
+from pitplan.tasks.tasks import Tasks
 from pitplan.plans.vary import Change, changes_of
-from processes import command
 
 FRAME = table(8, 7, 5, 5)
 
@@ -22,7 +19,7 @@ def ran(tmp_path, words, economics=None, slopes=None):
     study = study_of(tmp_path, FRAME, slopes=slopes, economics=economics)
     vary.prepare(study, economics or costs(), slopes or pp.Slopes(45), changes_of(words))
     tasks = Tasks(study.folder)
-    for task in vary.tasks(study):
+    for task in vary.vary_tasks(study):
         tasks.do(task)
     return study, vary.table(study).set_index(["what", "by"])
 
@@ -108,8 +105,8 @@ def test_npv_is_what_loops_over_the_table_give(tmp_path):
     rates = pit_by_pit.Rates(4e5, 3e5, 0.08)
     study = study_of(tmp_path, FRAME)
     vary.prepare(study, costs(), pp.Slopes(45), changes_of(words), rates=rates)
-    assert [str(task) for task in vary.tasks(study)] == ["run base 1000", "run base 1200"]
-    for task in vary.tasks(study):
+    assert [str(task) for task in vary.vary_tasks(study)] == ["run base 1000", "run base 1200"]
+    for task in vary.vary_tasks(study):
         Tasks(study.folder).do(task)
     found = vary.table(study, rates).set_index(["what", "by"])
     here, rich = study.mask(1000), study.mask(1200)
@@ -275,68 +272,7 @@ def test_a_recovery_above_one_is_told(tmp_path):
 def test_a_study_built_anew_has_no_what_ifs(tmp_path):
     study, _ = ran(tmp_path, ["mining=10"])
     other = study_of(tmp_path, FRAME, economics=costs(mining=2.5))
-    assert vary.tasks(other) == []
-    assert len(vary.tasks(study)) == 2
+    assert vary.vary_tasks(other) == []
+    assert len(vary.vary_tasks(study)) == 2
     with pytest.raises(pp.PlanError, match="there is no scenario"):
         vary.scenario(other, "mining+10")
-
-
-@pytest.mark.parametrize(
-    "touching, words",
-    [
-        (
-            2,
-            "the pit of the study itself, price -20% reaches the model's floor (up to 9 blocks there)",
-        ),
-        (4, "the pit in 4 of these 5 what-ifs reaches the model's floor (up to 9 blocks there)"),
-        (5, "the pit of each of these 5 what-ifs reaches the model's floor (up to 9 blocks there)"),
-    ],
-)
-def test_which_what_ifs_reach_the_floor_is_said(capsys, touching, words):
-    changes = [("base", 0.0), ("price", -20.0), ("price", 20.0), ("slope", -3.0), ("slope", 3.0)]
-    found = pd.DataFrame(changes, columns=["what", "by"])
-    found["side_blocks"] = 0
-    found["floor_blocks"] = [9] * touching + [0] * (5 - touching)
-    edges_told(found)
-    assert words in " ".join(capsys.readouterr().err.split())
-
-
-def test_the_command_and_its_chart(tmp_path):
-    folder = written_study(tmp_path / "s")
-    assert command("build", folder).wait() == 0
-    run = command("vary", folder, "price=-10..10", "mining=-10..10", "slope=-5..5", "--workers", 2)
-    said, faults = run.communicate(timeout=600)
-    assert run.returncode == 0, faults
-    frame = pd.read_csv(folder / "out/vary.csv")
-    assert len(frame) == 7
-    assert list(frame.what.unique()) == ["base", "price", "mining", "slope"]
-    study = pp.Study(folder)
-    for column, there, what in (
-        ("side_blocks", edges.touching(study), "touches the side of the model"),
-        ("floor_blocks", edges.on_floor(study.model), "reaches the model's floor"),
-    ):
-        assert frame[column].iloc[0] == (study.mask(1000) & there).sum()
-        assert frame[column].max() > 0
-        assert f"{what} (up to {frame[column].max():,} blocks there)" in faults
-    for row in frame.iloc[1:].itertuples():
-        assert f"{row.difference / 1e6:+,.2f}" in said
-    assert (folder / "out/tornado.png").read_bytes().startswith(b"\x89PNG")
-    axes = vary.tornado(frame).axes[0]
-    assert sorted(label.get_text() for label in axes.get_yticklabels()) == [
-        "mining",
-        "price",
-        "slope",
-    ]
-    assert len(axes.patches) == 6
-    base, unit = frame.worth.iloc[0], 1e6 if "million" in axes.get_xlabel() else 1e3
-    ends = sorted(
-        tuple(sorted((bar.get_x(), bar.get_x() + bar.get_width()))) for bar in axes.patches
-    )
-    assert np.allclose(
-        ends, sorted(tuple(sorted((base / unit, worth / unit))) for worth in frame.worth.iloc[1:])
-    )
-    widths = sorted(abs(bar.get_width()) for bar in axes.patches)
-    expected = sorted(abs(frame.difference.iloc[1:]))
-    assert (
-        widths[-1] / widths[0] == pytest.approx(expected[-1] / expected[0]) if expected[0] else True
-    )

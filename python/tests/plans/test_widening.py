@@ -1,4 +1,5 @@
-"""Pushbacks that are made wide: against plain loops over cells, predecessors as a plain search finds them, and circles by shapely."""
+"""Pushbacks that are made wide: against plain loops over cells, predecessors as a plain search
+finds them, and circles by shapely."""
 import itertools
 import math
 import re
@@ -69,7 +70,8 @@ def test_each_mine_is_closed_and_lies_between_proved_pits(mine):
 
 
 def planes_of(shells, mines, k, level):
-    """The cells that a pushback digs on a bench, and those that were dug before and have their floor, block by block."""
+    """The cells that a pushback digs on a bench, and those that were dug before and have their
+    floor, block by block."""
     b, new, floor = shells.study.model.blocks, set(), set()
     before = mines[k - 1] if k else np.zeros(len(b), bool)
     at = {place: n for n, place in enumerate(zip(b.ix, b.iy, b.iz))}
@@ -83,7 +85,8 @@ def planes_of(shells, mines, k, level):
 
 
 def covered(cell, cells, size, width):
-    """Whether a square of whole cells or a circle within some cells covers a cell, or comes to a quarter of a cell beside its centre."""
+    """Whether a square of whole cells or a circle within some cells covers a cell, or comes to a
+    quarter of a cell beside its centre."""
     across = [math.ceil(width / side - 1e-9) for side in size]
     for low in itertools.product(
         range(cell[0] - across[0] + 1, cell[0] + 1), range(cell[1] - across[1] + 1, cell[1] + 1)
@@ -121,7 +124,8 @@ def test_what_isnt_told_as_thin_is_wide_by_shapely(mine):
 
 
 def test_what_is_told_as_thin_has_no_room(mine):
-    """By loops: no square over the cell within the next pit and the floor, unless something was left there."""
+    """By loops: no square over the cell within the next pit and the floor, unless something was
+    left there."""
     shells, mines, width = mine
     b, size = shells.study.model.blocks, shells.study.model.grid.size[:2]
     across = [math.ceil(width / side - 1e-9) for side in size]
@@ -149,7 +153,8 @@ def test_what_is_told_as_thin_has_no_room(mine):
 
 
 def flat(rows, folder, width=40.0):
-    """A mine of one bench: 1 is a block that pays at 0.6 of the price, 2 at the full price, 0 never. After each pushback."""
+    """A mine of one bench: 1 is a block that pays at 0.6 of the price, 2 at the full price, 0
+    never. After each pushback."""
     grades = {"1": 0.5, "2": 0.2, "0": 0.0}
     frame = pd.DataFrame(
         [
@@ -176,14 +181,16 @@ def flat(rows, folder, width=40.0):
 
 
 def test_a_thin_strip_takes_the_row_beside_it(tmp_path):
-    """By hand: the lower of two rows that would do, and the last row has the floor of what was dug for room."""
+    """By hand: the lower of two rows that would do, and the last row has the floor of what was dug
+    for room."""
     found, phases = flat(["0000000", "0222220", "0111110", "0222220", "0000000"], tmp_path)
     assert found == ["0000000", "0222220", "0111110", "0111110", "0000000"]
     assert phases.benches()[["width", "narrow_blocks"]].to_numpy().tolist() == [[40, 0], [60, 0]]
 
 
 def test_a_spur_is_left_where_that_moves_less(tmp_path):
-    """By hand: for 60 m, three blocks, to widen the spur takes two, to leave it is one. The last pushback is wide with it."""
+    """By hand: for 60 m, three blocks, to widen the spur takes two, to leave it is one. The last
+    pushback is wide with it."""
     rows = ["00000000", "01112220", "01111220", "01112220", "00000000"]
     found, phases = flat(rows, tmp_path, 60.0)
     assert found == ["00000000", "01112220", "01112220", "01112220", "00000000"]
@@ -199,7 +206,8 @@ def test_a_spur_is_widened_where_that_moves_no_more(tmp_path):
 
 
 def test_a_small_pit_is_widened_and_not_left_as_a_whole(tmp_path):
-    """By hand: one block within the next pit, for 60 m: three by three blocks, of those that would do the first."""
+    """By hand: one block within the next pit, for 60 m: three by three blocks, of those that would
+    do the first."""
     rows = ["00000000", "02222200", "02212200", "02222200", "00000000"]
     found, phases = flat(rows, tmp_path, 60.0)
     assert found == ["00000000", "01112200", "01112200", "01112200", "00000000"]
@@ -216,7 +224,8 @@ def test_a_pushback_of_which_nothing_is_left_is_told(tmp_path):
 
 
 def test_what_has_no_room_stays_and_is_told(tmp_path):
-    """A spur of two blocks that the next pit has nothing beside: it isn't left either, as it would be as thin then."""
+    """A spur of two blocks that the next pit has nothing beside: it isn't left either, as it would
+    be as thin then."""
     rows = ["00000000", "01111220", "01111220", "01100000", "00100000", "00100000"]
     found, phases = flat(rows, tmp_path)
     assert found == rows
@@ -224,7 +233,8 @@ def test_what_has_no_room_stays_and_is_told(tmp_path):
 
 
 def test_squares_by_hand():
-    """Two by two: one new cell covers both ends of a step; where a cell has no room there is no answer."""
+    """Two by two: one new cell covers both ends of a step; where a cell has no room there is no
+    answer."""
 
     def plane(*rows):
         return np.array([[mark == "x" for mark in row] for row in rows])
@@ -244,7 +254,8 @@ def test_squares_by_hand():
 
 
 def test_pit_judges_each_mine(mine):
-    """`pit value` says CLOSED and the worth that the blocks add up to by the prices of `mines.costs`; an open one is refused."""
+    """`pit value` says CLOSED and the worth that the blocks add up to by the prices of
+    `mines.costs`; an open one is refused."""
     shells, mines, _ = mine
     b = shells.study.model.blocks
     cost = b.rock.map({"OXI": 7.5, "SUL": 9.0}).fillna(0.0)
@@ -267,13 +278,13 @@ def test_the_command_widens_and_says_what_can_not_be(tmp_path):
     plain = pitplan("phases", folder, "0.6,1.0", "--mining-width", "40")
     ran = pitplan("phases", folder, "0.6,1.0", "--widen", "40")
     assert ran.returncode == 0, ran.stderr
-    told = re.search(
+    match = re.search(
         r"pushback 1 widened to 40 m: (\d+) blocks? of the next pit taken in \(([\d.]+) Mt\), (\d+) blocks? left for it .*\n"
         r"  pit value says CLOSED, worth \$ ([\d,]+) at factor 1; the pits beside it are worth \$ ([\d,]+) \(factor 0.6\) and \$ ([\d,]+) \(factor 1\)",
         ran.stdout,
     )
-    assert told
-    assert int(told[1]) + int(told[3]) > 0
+    assert match
+    assert int(match[1]) + int(match[3]) > 0
     assert "the mine keeps the slopes" in ran.stdout
     assert "is a proved pit;" in plain.stdout
     rows = {row["id"]: row["pushback"] for row in rows_of(folder / "out" / "phase_blocks.csv")}
@@ -282,8 +293,8 @@ def test_the_command_widens_and_says_what_can_not_be(tmp_path):
     metal = np.rint(first.TONNES * first.CU / 100 * 0.85 * 8500)
     treating = np.rint(first.TONNES * first.ROCK.map({"OXI": 7.5, "SUL": 9.0}))
     worth = np.maximum(metal - treating, 0).sum() - np.rint(first.TONNES * 2.0).sum()
-    assert float(told[4].replace(",", "")) == worth
-    assert float(told[4].replace(",", "")) <= float(told[6].replace(",", ""))
+    assert float(match[4].replace(",", "")) == worth
+    assert float(match[4].replace(",", "")) <= float(match[6].replace(",", ""))
     wrong = pitplan("phases", folder, "0.6,1.0", "--widen", "40", "--mining-width", "40")
     assert wrong.returncode == 3
     assert "are one width" in wrong.stderr
@@ -331,7 +342,8 @@ def test_what_has_to_be_dug_is_not_left(tmp_path):
 
 @pytest.mark.parametrize("more", [1e-6, 1e-4, 0.019])
 def test_a_width_that_is_a_hair_more_than_whole_blocks_takes_no_more(tmp_path, more):
-    """By hand: 40 m are two blocks of 20 m, and so are 40.0001; a thousandth of a block counts as none."""
+    """By hand: 40 m are two blocks of 20 m, and so are 40.0001; a thousandth of a block counts as
+    none."""
     rows = ["00000000", "01112220", "01111220", "01112220", "00000000"]
     found, phases = flat(rows, tmp_path, 40.0 + more)
     assert found == ["00000000", "01112220", "01111220", "01111220", "00000000"]
@@ -346,7 +358,8 @@ def test_a_width_that_is_more_takes_more(tmp_path):
 
 
 def test_circles_have_the_same_tolerance():
-    """A disc of blocks is as wide as its distance map says, and a width of a hundredth of a metre more is that width."""
+    """A disc of blocks is as wide as its distance map says, and a width of a hundredth of a metre
+    more is that width."""
     i, j = np.mgrid[:15, :15]
     disc = np.hypot(i - 7, j - 7) < 6.2
     wanted = widths.widths(disc, (20, 20), 200.0) >= 200.0

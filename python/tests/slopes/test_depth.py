@@ -1,4 +1,5 @@
-"""Slopes by depth and by elevation: regions that a formula gives, against columns that are worked out from the table by loops."""
+"""Slopes by depth and by elevation: regions that a formula gives, against columns that are worked
+out from the table by loops."""
 import operator
 import os
 import subprocess
@@ -55,7 +56,8 @@ def prec(study):
 
 
 def test_a_region_by_depth_and_elevation_is_that_of_a_column(tmp_path):
-    """Depths count from the ground of each column, which a hill has at several elevations; a code is a word as `by` of a column has it."""
+    """Depths count from the ground of each column, which a hill has at several elevations; a code
+    is a word as `by` of a column has it."""
     frame = table(9, 8, 6, 5).assign(DOM=lambda f: np.where(f.XC > 5080, 2, 1))
     formula = "where(below_ground < 20, 'TOP', where(elevation <= 130 and DOM == 1, ' OLD', DOM))"
     ours, theirs = both(
@@ -100,7 +102,8 @@ def test_each_block_has_the_predecessors_of_its_own_region(tmp_path):
 
 @pytest.mark.parametrize("with_rows", [True, False])
 def test_air_over_a_cliff_has_the_region_of_the_ground_below_it(tmp_path, with_rows):
-    """With rows of air, which lie above the ground; and without, where blocks of air are added, as by a column."""
+    """With rows of air, which lie above the ground; and without, where blocks of air are added, as
+    by a column."""
     frame = below(7)
     frame = frame if with_rows else frame[frame.TONNES > 0]
     ours, theirs = both(
@@ -117,7 +120,8 @@ def test_air_over_a_cliff_has_the_region_of_the_ground_below_it(tmp_path, with_r
 
 
 def test_a_model_of_depths_and_one_that_is_turned(tmp_path):
-    """z that counts downward: an elevation is its negative; and the depth below the ground stays what it is."""
+    """z that counts downward: an elevation is its negative; and the depth below the ground stays
+    what it is."""
     frame = table(8, 7, 5, 3, rotation=30.0)
     formula = "where(below_ground > 20 and elevation < -110, 'OLD', 'TOP')"
     down = frame.assign(ZC=-frame.ZC + 20)
@@ -242,18 +246,19 @@ def test_a_bundle_is_checked_by_the_same_regions(tmp_path, bound):
         ran = subprocess.run(words, capture_output=True, text=True)
         return ran.stdout + ran.stderr, ran.returncode
 
-    told, status = rechecked()
-    assert status == 0, told
-    assert "each block is in the region of slopes that its row names" in told, told
+    text, status = rechecked()
+    assert status == 0, text
+    assert "each block is in the region of slopes that its row names" in text, text
     stated = folder / "study.toml"
     stated.write_text(stated.read_text().replace(f"below_ground {bound}", "below_ground < 40"))
-    told, status = rechecked()
-    assert status == 1, told
-    assert "WRONG   each block is in the region" in told, told
+    text, status = rechecked()
+    assert status == 1, text
+    assert "WRONG   each block is in the region" in text, text
 
 
 def test_of_sub_blocks_a_code_in_the_formula_is_that_of_the_most_tonnes(tmp_path):
-    """60 % of domain 3 and 40 % of domain 1 are no domain 2.2; and a grade in the formula stays the mean that the metal has."""
+    """60 % of domain 3 and 40 % of domain 1 are no domain 2.2; and a grade in the formula stays the
+    mean that the metal has."""
     frame = table(7, 6, 4, 3).assign(DX=20.0, DY=20.0, DZ=15.0, DOM=2, CU=0.3)
     whole = frame.iloc[:1]
     parts = [

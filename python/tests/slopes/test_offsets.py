@@ -1,4 +1,5 @@
-"""The search for offsets: against plain sums, against hulls by shapely, and against the pit that `pit` finds in a deep model."""
+"""The search for offsets: against plain sums, against hulls by shapely, and against the pit that
+`pit` finds in a deep model."""
 import math
 import os
 import shutil
@@ -34,7 +35,8 @@ def sums_of(offsets, levels):
 
 
 def slope_of(asked, offsets, bearing):
-    """Degrees of the wall at a bearing: the ray cut with the hull of offset / level, by shapely. The model isn't turned."""
+    """Degrees of the wall at a bearing: the ray cut with the hull of offset / level, by shapely.
+    The model isn't turned."""
     x, y, z = asked.size
     hull = MultiPoint([(i * x / k / z, j * y / k / z) for i, j, k in offsets]).convex_hull
     far = 1e3
@@ -105,7 +107,8 @@ def test_a_wall_that_is_held_errs_by_no_more_than_is_allowed(size, slope, safe):
 def test_few_levels_make_a_safe_wall_flatter_and_never_steeper(
     size, slope, levels, offsets, corner, edge
 ):
-    """A block out along an axis and so many levels up makes a corner of that tangent, and between two of them the wall is steeper by sqrt 2."""
+    """A block out along an axis and so many levels up makes a corner of that tangent, and between
+    two of them the wall is steeper by sqrt 2."""
     found = search.search(search.wall(size, slope), safe=True, levels=levels)
     built = [slope_of(found.wall, found.offsets, bearing) for bearing in range(360)]
     assert max(built) <= slope
@@ -139,7 +142,8 @@ def test_no_safe_wall_is_steeper_than_asked(size, angles, levels):
 
 
 def steeper(found, slope, bearings):
-    """By how many degrees a wall is steeper than asked at bearings, by the hull of tests/program/walls.py."""
+    """By how many degrees a wall is steeper than asked at bearings, by the hull of
+    tests/program/walls.py."""
     outline = walls.hull(
         [(i * found.wall.size[0] / k, j * found.wall.size[1] / k) for i, j, k in found.offsets]
     )
@@ -236,7 +240,8 @@ def test_the_wall_is_the_hull_of_offset_over_level(
     program, tmp_path, size, angles, slope, rotation
 ):
     found = search.search(search.wall(size, angles, rotation))
-    pit = pit_of(program, tmp_path, walls.Deep(size, 46, 38, out=16), search.settings(found))
+    listed = f"offsets = {[list(offset) for offset in found.offsets]}\n"
+    pit = pit_of(program, tmp_path, walls.Deep(size, 46, 38, out=16), listed)
     deep = walls.Deep(size, 46, 38, out=16)
     assert not deep.touches_the_edge(pit)
     bearings = [22.5 * i for i in range(16)]
@@ -374,7 +379,8 @@ def test_wrong_words_of_the_script(words, said):
 @pytest.mark.parametrize("angles", [45, BY_BEARING, [(0, 35), (45, 50), (90, 35), (180, 45)]])
 @pytest.mark.parametrize("safe", [False, True])
 def test_nothing_better_is_passed_over(angles, safe):
-    """What the search leaves out unlooked at, since it can't be better, isn't: all cones and levels are judged one by one."""
+    """What the search leaves out unlooked at, since it can't be better, isn't: all cones and levels
+    are judged one by one."""
     asked = search.wall((20, 20, 10), angles, 30)
     cones = search._Cones(asked, 7)
     stretches = cones.cuts(search.NARROWEST, 40)
@@ -390,7 +396,8 @@ def test_nothing_better_is_passed_over(angles, safe):
 
 
 def rank(count, badness):
-    """By what patterns are told apart: those that hold by their offsets, the others by how much they err."""
+    """By what patterns are told apart: those that hold by their offsets, the others by how much
+    they err."""
     return (0, count, badness) if badness <= 1 + 1e-6 else (1, badness, 0)
 
 
@@ -401,8 +408,8 @@ TWO_TO_ONE = math.degrees(math.atan(2))
 @pytest.mark.parametrize("safe", [False, True])
 @pytest.mark.parametrize("angle", [TWO_TO_ONE, math.degrees(math.atan(0.5)), 45.0, 55.0])
 def test_a_size_off_in_its_eighth_digit_changes_no_offset(angle, safe):
-    """Blocks of 20 x 20 x 10 m in feet with seven decimals, and one side a ten-millionth of a metre longer: where a column of
-    blocks lies on the very edge of a cone, it does there too."""
+    """Blocks of 20 x 20 x 10 m in feet with seven decimals, and one side a ten-millionth of a metre
+    longer: where a column of blocks lies on the very edge of a cone, it does there too."""
     wanted = search.search(search.wall((20, 20, 10), angle), safe=safe)
     for size in (
         [round(side * FEET, 7) for side in (20, 20, 10)],
@@ -425,7 +432,8 @@ def test_steeper_by_less_than_a_millionth_is_as_steep():
 
 
 def test_the_script_writes_slopes_of_regions(tmp_path):
-    """A list for each slope, as `pit` reads them beside blocks; what is told of each wall comes on standard error."""
+    """A list for each slope, as `pit` reads them beside blocks; what is told of each wall comes on
+    standard error."""
     words = [sys.executable, SCRIPT, "20", "20", "10", "44", "0:34,180:40"]
     refused = subprocess.run(words, capture_output=True, text=True)
     assert refused.returncode == 2
@@ -451,7 +459,8 @@ def test_the_script_writes_slopes_of_regions(tmp_path):
 
 
 def test_a_copied_script_finds_an_installed_pitplan(tmp_path):
-    """As of /usr/share/doc/pitplan/examples, with nothing of the repository beside it; the Python that runs it has no packages."""
+    """As of /usr/share/doc/pitplan/examples, with nothing of the repository beside it; the Python
+    that runs it has no packages."""
     copied = Path(shutil.copy(SCRIPT, tmp_path / "offsets.py"))
     words = ["-I", "-S", copied, "20", "20", "10", "44"]
     lost = subprocess.run(

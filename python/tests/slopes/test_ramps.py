@@ -1,4 +1,5 @@
-"""A ramp in a wall: overall angles against a wall that is walked bench by bench, and studies whose angles were typed by hand."""
+"""A ramp in a wall: overall angles against a wall that is walked bench by bench, and studies whose
+angles were typed by hand."""
 import math
 import os
 import re
@@ -8,7 +9,7 @@ import sys
 import pytest
 
 import pitplan as pp
-from pitplan.study.looks import of_ramps
+from pitplan.study.strange_inputs import of_ramps
 from bundles import bundled
 from mines import STUDY_TOML, predecessors, study_of, table, written_study
 from pitplan.model.grid import Grid
@@ -22,7 +23,8 @@ GRID = Grid((0.0, 0.0, 0.0), (20.0, 20.0, 15.0))
 
 
 def walked(face, berm, bench, benches, ramp_at, width):
-    """The overall angle of a wall that is walked from its toe to its crest: faces and berms, and a ramp in place after some benches."""
+    """The overall angle of a wall that is walked from its toe to its crest: faces and berms, and a
+    ramp in place after some benches."""
     along = up = 0.0
     for k in range(benches):
         along, up = along + bench / math.tan(math.radians(face)) + berm, up + bench
@@ -38,7 +40,8 @@ def test_a_wall_with_ramps_is_as_steep_as_one_that_is_walked(ramp_at):
 
 
 def test_overall_angles_by_hand():
-    """100 m up over 100 m and one pass of 25 m: 4 in 5. A turn of 1,500 m at 1 in 10 rises by 150 m, so 300 m have two."""
+    """100 m up over 100 m and one pass of 25 m: 4 in 5. A turn of 1,500 m at 1 in 10 rises by 150
+    m, so 300 m have two."""
     assert Ramp(25, 0.1, 100, turns=1).overall(45) == pytest.approx(math.degrees(math.atan(4 / 5)))
     assert Ramp(25, 0.1, 300, around=1500).passes == 2
     assert Ramp(25, 0.08, 300, around=1500).passes == 2.5
@@ -50,7 +53,8 @@ def test_overall_angles_by_hand():
 
 
 def test_a_study_with_a_ramp_is_that_of_the_overall_angles(tmp_path):
-    """The same predecessors as with angles that were worked out by hand, in the regions that have a ramp, and the others as they were."""
+    """The same predecessors as with angles that were worked out by hand, in the regions that have a
+    ramp, and the others as they were."""
     frame = table(8, 7, 6, 2)
     by_hand = {
         45: math.degrees(math.atan(300 / (300 + 50))),
@@ -130,9 +134,9 @@ def test_the_key_of_a_ramp_that_is_wrong_is_named(region, change, key, said, tri
     """In a ramp of all walls, and in that of a region beside one that is right."""
     wrong = {name: value for name, value in {**RAMP, **change}.items() if value is not None}
     ramp = {"default": RAMP, region[0]: wrong} if region else wrong
-    with pytest.raises(pp.PlanError) as told:
+    with pytest.raises(pp.PlanError) as caught:
         pp.Slopes(45, by="SECTOR", regions={"NORTH": 40}, ramp=ramp)
-    (error,) = told.value.each()
+    (error,) = caught.value.each()
     assert error.key == ("slopes", "ramp", *region, *key)
     assert said.format(ramp=", ".join(("[slopes] ramp", *region))) in error.what
     assert tried in str(error.try_this)
@@ -187,7 +191,7 @@ def test_a_bundle_is_judged_by_the_overall_angle(tmp_path):
 
 
 @pytest.mark.parametrize(
-    "ramp, told",
+    "ramp, words",
     [
         # over 110 m a ramp of one in ten is 1,100 m long: nine times round makes turns of 122 m,
         # and a circle of 25 m radius has 157 m, which is 7 turns
@@ -206,14 +210,14 @@ def test_a_bundle_is_judged_by_the_overall_angle(tmp_path):
         ({"height": 300, "around": 100}, "passes 30 times"),
     ],
 )
-def test_more_passes_than_a_wall_has_room_for_are_told(ramp, told):
+def test_more_passes_than_a_wall_has_room_for_are_told(ramp, words):
     ramp = {"width": 25, "grade": 0.10, **ramp}
     for slopes in (
         pp.Slopes(70, ramp=ramp),
         pp.Slopes(70, by="SECTOR", regions={"NORTH": 70}, ramp={"NORTH": ramp}),
     ):
         found = list(map(str, of_ramps(slopes, "m")))
-        assert len(found) == (told is not None)
-        assert told is None or re.search(told, found[0]), found
-        assert told is None or ("NORTH" in found[0]) == bool(slopes.regions)
+        assert len(found) == (words is not None)
+        assert words is None or re.search(words, found[0]), found
+        assert words is None or ("NORTH" in found[0]) == bool(slopes.regions)
     assert not list(of_ramps(pp.Slopes(70), "m"))

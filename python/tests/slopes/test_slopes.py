@@ -1,21 +1,19 @@
-"""Slopes by region: the pairs against a plain search, what settings list and what is read back, what a planner is told."""
+"""Slopes by region: the pairs against a plain search, what settings list and what is read back,
+what a planner is told."""
 import math
 import re
 import sys
-import tomllib
 from pathlib import Path
 
 import numpy as np
-import pandas as pd
 import pytest
 from hypothesis import given, settings, strategies as st
 
 import pitplan as pp
 from mines import STUDY_TOML, places_of, rows_of, table, written_study
-from pitplan.slopes import listed, slopes as module
+from pitplan.slopes import slopes as module
 from pitplan.base.errors import PlanError
 from pitplan.pit.program import Files, Pit
-from pitplan.views import slope_rose
 from served import pitplan
 
 sys.path.insert(0, str(Path(__file__).resolve().parents[3] / "tests"))
@@ -56,14 +54,14 @@ def written(folder, slopes, model):
 
 @settings(max_examples=8)
 @given(
-    st.integers(2, 6), st.integers(2, 6), st.integers(2, 6), st.integers(0, 10**6), ANGLES, ANGLES
+    st.tuples(st.integers(2, 6), st.integers(2, 6), st.integers(2, 6), st.integers(0, 10**6)),
+    ANGLES,
+    ANGLES,
 )
-def test_each_block_has_the_slopes_of_its_own_region(
-    tmp_path_factory, nx, ny, nz, seed, angles, east
-):
+def test_each_block_has_the_slopes_of_its_own_region(tmp_path_factory, made_of, angles, east):
     folder = tmp_path_factory.mktemp("s")
     slopes = pp.Slopes(angles, by="SECTOR", regions={"EAST": east})
-    model = model_of(folder, table(nx, ny, nz, seed))
+    model = model_of(folder, table(*made_of))
     got = written(folder, slopes, model)
     rows = rows_of(folder / "t.csv")
     at = {place: b for b, place in enumerate(places_of(rows))}
@@ -159,52 +157,6 @@ def test_slopes_of_too_many_pairs_are_told_in_the_planner_s_terms(tmp_path, monk
     assert "TooMany" not in ran.stderr
 
 
-def test_what_settings_list_is_what_was_searched():
-    """The text, read back by a reader of TOML; and by what walls are told and drawn from."""
-    grid = pp.Grid((0, 0, 0), (20, 20, 15), (1, 1, 1), 30.0)
-    slopes = pp.Slopes(45, by="S", regions={"N ] # 1\a\n": [(0, 38), (180, 46)]})
-    text = slopes.settings(grid, 4)
-    told = tomllib.loads(text)
-    found = list(slopes.offsets_by_region(grid).values())
-    assert [[tuple(offset) for offset in each] for each in told["slopes"]] == found
-    assert {key: told[key] for key in told if key != "slopes"} == {"region": 4, "up": "plus"}
-    assert listed.offsets_listed(text) == found
-    assert "region" not in tomllib.loads(pp.Slopes(45).settings(grid, 4))
-
-
-def test_walls_are_told_and_drawn_of_what_settings_list(monkeypatch):
-    """The text is the one thing that `pit` reads: where it lists other offsets, other walls are shown."""
-    grid, slopes = pp.Grid((0, 0, 0), (10, 10, 10), (1, 1, 1), 0.0), pp.Slopes(45)
-    five = "slopes = [[[0, 0, 1], [1, 0, 1], [-1, 0, 1], [0, 1, 1], [0, -1, 1]]]\n"
-    monkeypatch.setattr(pp.Slopes, "settings", lambda self, grid, column: five)
-    found = slopes.built(grid).set_index("bearing").built
-    assert found[0] == pytest.approx(45)  # a block out on each level: the corner of a square
-    assert found[45] == pytest.approx(math.degrees(math.atan(math.sqrt(2))))
-    drawn = slope_rose.rose(slopes, grid).axes[0].lines[0].get_ydata()
-    assert drawn[45] == pytest.approx(math.degrees(math.atan(math.sqrt(2))))
-
-
-@pytest.mark.parametrize(
-    "text, said",
-    [
-        ("", "lists no slopes"),
-        ("slopes = []", "lists no slopes"),
-        ("slopes = [1]", "no list"),
-        ("slopes = [[[0, 0]]]", "three whole numbers that lead upward"),
-        ("slopes = [[[0, 0, 0]]]", "three whole numbers that lead upward"),
-        ("slopes = [[[0, 0, -1]]]", "three whole numbers that lead upward"),
-        ("slopes = [[[0, 0, 1.0]]]", "three whole numbers that lead upward"),
-        ("slopes = [[[0, true, 1]]]", "three whole numbers that lead upward"),
-        ("slopes = [[[2147483648, 0, 1]]]", "three whole numbers that lead upward"),
-        ('slopes = [[[0, 0, 1]]]\nup = "minus"', "where z is less"),
-        ("slopes = [[", "Invalid value"),
-    ],
-)
-def test_settings_that_list_no_offsets_upward_are_refused(text, said):
-    with pytest.raises(ValueError, match=said):
-        listed.offsets_listed(text)
-
-
 def test_more_regions_than_pit_takes_are_told():
     most = {f"R{n}": 45 for n in range(63)}
     pp.Slopes(45, by="S", regions=most)
@@ -277,23 +229,7 @@ def test_a_build_refuses_a_safe_wall_that_would_be_too_steep(tmp_path, angles, w
         )
 
 
-def test_the_command_shows_and_draws(tmp_path):
-    text = STUDY_TOML.replace(
-        "angles = 45", 'angles = 45\nby = "SECTOR"\nregions = { EAST = [[0, 38], [180, 46]] }'
-    )
-    study = written_study(tmp_path / "s", text=text)
-    ran = pitplan("slopes", study)  # before a build: it needs the size alone
-    assert ran.returncode == 0, ran.stderr
-    assert "EAST:" in ran.stdout, ran.stderr
-    assert "a deep wall is" in ran.stdout, ran.stderr
-    assert "42.0" in ran.stdout, ran.stderr
-    told = pd.read_csv(study / "out/slopes.csv")
-    assert set(told.region) == {"default", "EAST"}
-    assert len(told) == 48
-    from matplotlib import image
-
-    picture = image.imread(study / "out/slopes.png")
-    assert len(np.unique(picture.reshape(-1, picture.shape[-1]), axis=0)) > 20
+def test_angles_that_no_offsets_hold_are_said_by_slopes_and_by_build(tmp_path):
     said = {}
     for name, angles in (
         ("few", "45\nlevels = 1"),
@@ -302,12 +238,11 @@ def test_the_command_shows_and_draws(tmp_path):
         cannot = written_study(
             tmp_path / name, text=STUDY_TOML.replace("angles = 45", f"angles = {angles}")
         )
-        told = [
-            pitplan(word, cannot) for word in ("slopes", "build")
-        ]  # the build says it too, and goes on
-        assert told[0].stderr == told[1].stderr
-        assert [ran.returncode for ran in told] == [0, 0]
-        said[name] = told[0].stderr
+        # the build says it too, and goes on
+        runs = [pitplan(word, cannot) for word in ("slopes", "build")]
+        assert runs[0].stderr == runs[1].stderr
+        assert [ran.returncode for ran in runs] == [0, 0]
+        said[name] = runs[0].stderr
     assert (
         "default: 0.5 degrees on average and 1 at the worst bearing can't be held with blocks of 20 x 20 x 15 and levels = 1;"
         in said["few"]
@@ -335,22 +270,23 @@ def test_the_command_shows_and_draws(tmp_path):
     assert asked == pytest.approx(
         walls.asked("0:35,45:55,90:35,180:45,270:55", bearing), abs=0.5
     )  # the bearing is told in whole degrees
-    wrong = written_study(tmp_path / "u", text=STUDY_TOML.replace("angles = 45", "angles = 450"))
-    ran = pitplan("slopes", wrong)
-    assert ran.returncode == 3
-    assert "from 5 to 89 degrees" in ran.stderr
-    assert "Traceback" not in ran.stderr
 
 
 def test_the_offsets_of_a_wall_are_searched_once(tmp_path, monkeypatch):
-    model, events, look = model_of(tmp_path, table(4, 4, 3, 2)), [], module.pattern_of
-    slopes = pp.Slopes(45, by="SECTOR", regions={"EAST": 38, "WEST": 40})
-    monkeypatch.setattr(
-        module, "pattern_of", lambda *asked: events.append("search") or look(*asked)
-    )
-    for _ in range(2):
+    model, events, look = model_of(tmp_path, table(4, 4, 3, 2)), [], module.offsets.search
+    monkeypatch.setattr(module, "_FOUND", {})
+
+    def search(wall, **how):
+        events.append(wall.slopes[0][1])
+        return look(wall, **how)
+
+    monkeypatch.setattr(module.offsets, "search", search)
+    for _ in range(2):  # as what-ifs over the same slopes do
+        slopes = pp.Slopes(45, by="SECTOR", regions={"EAST": 38, "WEST": 40})
         slopes.patterns(model.grid)
-    assert events == ["search"] * 3
+    assert events == [45, 38, 40]
+    pp.Slopes(45, safe=True).patterns(model.grid)
+    assert events == [45, 38, 40, 45]
 
 
 def test_a_region_that_is_called_as_the_slopes_of_all_others_is_refused():
@@ -372,12 +308,13 @@ def test_values_without_a_region_of_their_own_are_counted(tmp_path):
     rock = frame[frame.TONNES > 0].ZONE
     others = {word: int((rock == number).sum()) for word, number in (("120", 120), ("130", 130))}
     others["nothing"] = int(rock.isna().sum())
-    listed = sorted(others.items(), key=lambda of: -of[1])
+    others_listed = sorted(others.items(), key=lambda of: -of[1])
     assert (
         f"blocks of rock by region: default {sum(others.values())}, 110 {(rock == 110).sum()}"
         in ran.stdout
     )
     assert (
-        "default are those whose ZONE is " + ", ".join(f"{word} {count}" for word, count in listed)
+        "default are those whose ZONE is "
+        + ", ".join(f"{word} {count}" for word, count in others_listed)
         in ran.stdout
     )

@@ -1,4 +1,5 @@
-"""Beside a cliff a slope leads through air that tables have no rows for: the pits are those of the table that has these rows."""
+"""Beside a cliff a slope leads through air that tables have no rows for: the pits are those of the
+table that has these rows."""
 from dataclasses import replace
 
 import numpy as np
@@ -7,7 +8,7 @@ import pytest
 import pitplan as pp
 from mines import CUBE, WASTE, below, study_of
 from pitplan.plans import compare, compare_words, design, vary
-from pitplan.study import plausible
+from pitplan.study import strange_worths
 from pitplan.slopes.steep_ground import led_through, with_air
 from served import pitplan
 
@@ -51,7 +52,8 @@ def test_a_cliff_is_dug_back_whether_or_not_air_has_rows(tmp_path, slopes):
     ],
 )
 def test_a_formula_that_goes_by_the_ground_is_not_asked_of_added_air(tmp_path, mining, cost):
-    """Above the ground it gives no number, or less than nothing, and air weighs nothing: the pits are those of the same costs in a column."""
+    """Above the ground it gives no number, or less than nothing, and air weighs nothing: the pits
+    are those of the same costs in a column."""
     f = below(8)
     rock = f.TONNES > 0
     f["TOPO"] = f.ZC.where(rock).groupby([f.XC, f.YC]).transform("max") + 5
@@ -75,7 +77,7 @@ def test_a_formula_that_goes_by_the_ground_is_not_asked_of_added_air(tmp_path, m
     assert dug(lean) == dug(whole)
     assert dug(lean)[0]
     assert (lean.model.blocks["row"] < 0).any()
-    assert not plausible.of_forbid(lean.model, replace(WASTE, forbid=forbid))
+    assert not strange_worths.of_forbid(lean.model, replace(WASTE, forbid=forbid))
     assert lean.priced.forbidden.sum() == whole.priced.forbidden.sum() > 0
 
 
@@ -162,7 +164,8 @@ def test_build_says_how_much_air_was_added(tmp_path):
 
 
 def test_a_wall_that_air_leads_to_has_no_block_of_the_table_at_its_foot(tmp_path):
-    """A design of the low ground alone: what it leaves of the cliff breaks the slopes, which lead to it through air too."""
+    """A design of the low ground alone: what it leaves of the cliff breaks the slopes, which lead
+    to it through air too."""
     f = below(8)
     study = study_of(tmp_path, f[f.TONNES > 0], pp.Slopes(45), WASTE, size=CUBE)
     study.shells([1000])

@@ -1,5 +1,5 @@
-"""Tables that tell tonnes, grades and metal by process: added up again from the planner's own table, by two_ways.py alone."""
-import re
+"""Tables that tell tonnes, grades and metal by process: added up again from the planner's own
+table, by two_ways.py alone."""
 
 import numpy as np
 import pandas as pd
@@ -18,7 +18,7 @@ from pitplan.study.study_file import read_study_file
 from pitplan.views import page_views, pictures
 from pitplan.views.export import csv, gpkg, vtu
 from pitplan.views.report import contents
-from pitplan.tasks.task import Tasks
+from pitplan.tasks.tasks import Tasks
 from realisations import done
 from served import pitplan
 from two_ways import COLUMNS, NAMES, added_up, rows_at
@@ -27,17 +27,18 @@ from two_ways import COLUMNS, NAMES, added_up, rows_at
 @pytest.fixture(scope="module")
 def shells(tmp_path_factory):
     """The pits of the mine of two ways."""
-    told = read_study_file(two_ways.written(tmp_path_factory.mktemp("two")))
-    folder = told.path.parent
+    file = read_study_file(two_ways.written(tmp_path_factory.mktemp("two")))
+    folder = file.path.parent
     study = pp.Study.create(
-        folder, told.read_model(), told.economics, told.slopes, keys=told.digest
+        folder, file.read_model(), file.economics, file.slopes, keys=file.digest
     )
-    return study.shells(told.factors)
+    return study.shells(file.factors)
 
 
 @pytest.fixture(scope="module")
 def rows(shells):
-    """The planner's rows with the number of the first pit that has each, worked out at the full price."""
+    """The planner's rows with the number of the first pit that has each, worked out at the full
+    price."""
     of = dict(zip(shells.study.model.blocks.id, shells.shell.tolist()))
     found = rows_at(two_ways.frame())
     for row in found:
@@ -50,8 +51,8 @@ def is_so(line, wanted, more=()):
     columns = [*COLUMNS, *(f"process_{name}_{column}" for name in NAMES for column in COLUMNS)]
     for column in (*columns, "blocks", "rock_t", "waste_t", *more):
         if column in line.index:
-            told = pytest.approx(wanted[column], rel=1e-9, abs=1e-9, nan_ok=True)
-            assert line[column] == told, column
+            found = pytest.approx(wanted[column], rel=1e-9, abs=1e-9, nan_ok=True)
+            assert line[column] == found, column
     assert set(columns) - {"feed_t"} <= set(line.index)
 
 
@@ -67,7 +68,8 @@ def test_each_pit_is_what_the_planners_rows_come_to(shells, rows):
 
 
 def test_each_process_has_its_own_rate(shells, rows):
-    """The worst case: bench after bench, each as long as digging or the slower process takes, by hand."""
+    """The worst case: bench after bench, each as long as digging or the slower process takes, by
+    hand."""
     rates = {"mill": 250e3, "leach": 120e3}
     table = shells.table(mining_rate=600e3, discount=0.08, process_rates=rates)
     ends, npv = 0.0, 0.0
@@ -110,9 +112,9 @@ def test_rates_go_by_name_and_not_by_order(shells):
     for name in NAMES:
         rates = {name: fifteen[f"process_{name}_feed_t"].iloc[-1] / 15}
         assert (shells.table(**asked, process_rates=rates).npv_best == fifteen.npv_best).all()
-    with pytest.raises(pp.PlanError, match="a rate is told of 'heap', and no process"):
+    with pytest.raises(pp.PlanError, match="there is a rate of 'heap', and no process"):
         shells.table(process_rates={"heap": 1e5})
-    with pytest.raises(pp.PlanError, match="a rate is told of a mill, and there are processes"):
+    with pytest.raises(pp.PlanError, match="there is a rate of a mill, and there are processes"):
         shells.table(mill_rate=1e5)
     with pytest.raises(pp.PlanError, match="process leach rate is -1"):
         shells.table(process_rates={"leach": -1})
@@ -186,19 +188,21 @@ def test_the_page_tells_each_pit_by_process(shells, rows):
         for i in range(4)
         for to in (*NAMES, "waste")
     }
-    told = [(factor_text(shells.factors[i]), to, f"{count:,}") for (i, to), count in counts.items()]
+    found = [
+        (factor_text(shells.factors[i]), to, f"{count:,}") for (i, to), count in counts.items()
+    ]
     shown = zip(by.names, dict(by.columns)["Blocks"])
-    assert [(*name.split(", "), count) for name, count in shown] == told
+    assert [(*name.split(", "), count) for name, count in shown] == found
 
 
 def test_what_ifs_of_a_process_change_it_alone(shells):
     """Its cost by percent of itself; the recovery of a metal in all processes that say their own."""
-    told = read_study_file(shells.study.folder)
-    model = told.read_model()
-    economics = told.economics
+    file = read_study_file(shells.study.folder)
+    model = file.read_model()
+    economics = file.economics
     for word, wanted in (("processing:leach=50", (1, 1.5)), ("processing=50", (1.5, 1.5))):
         (change,) = vary.changes_of([word])
-        other, _ = vary.changed(economics, told.slopes, change, model)
+        other, _ = vary.changed(economics, file.slopes, change, model)
         before, after = economics.priced(model).ways, other.priced(model).ways
         for one, more, times in zip(before, after, wanted):
             selling = one.metal["copper"] * 300
@@ -206,7 +210,7 @@ def test_what_ifs_of_a_process_change_it_alone(shells):
             told_now = pytest.approx((one.processing - selling) * times + selling, abs=2)
             assert more.processing == told_now
     (change,) = vary.changes_of(["recovery:copper=-10"])
-    other, _ = vary.changed(economics, told.slopes, change, model)
+    other, _ = vary.changed(economics, file.slopes, change, model)
     for before, after in zip(economics.priced(model).ways, other.priced(model).ways):
         assert after.metal["copper"] == pytest.approx(before.metal["copper"] * 0.9)
         assert after.metal["gold"] == pytest.approx(before.metal["gold"])
@@ -221,7 +225,7 @@ def test_what_ifs_of_a_process_change_it_alone(shells):
                 rates = pit_by_pit.Rates(6e5, None, 0.08, {"mill": 1e5, "leach": 1e5})
                 vary.refuse_other_rate(change, list(rates.processes))
             else:
-                vary.changed(economics, told.slopes, change, model)
+                vary.changed(economics, file.slopes, change, model)
 
 
 def test_exported_files_say_where_blocks_go(shells, rows, tmp_path):
@@ -279,15 +283,16 @@ def test_the_report_has_a_table_by_process(shells, rows):
 
 
 def test_likelihoods_have_the_means_of_each_process(tmp_path):
-    """Two realisations of the grades: what each process gets of a pit is the mean over them, each by its own choice."""
-    told = read_study_file(two_ways.written(tmp_path))
+    """Two realisations of the grades: what each process gets of a pit is the mean over them, each
+    by its own choice."""
+    file = read_study_file(two_ways.written(tmp_path))
     study = pp.Study.create(
-        tmp_path, told.read_model(), told.economics, told.slopes, keys=told.digest
+        tmp_path, file.read_model(), file.economics, file.slopes, keys=file.digest
     )
     frame = two_ways.frame()
     grades = np.stack([frame.CU * 0.7, frame.CU * 1.4]).astype(np.float32)
     np.save(tmp_path / "sims.npy", grades)
-    risk.prepare(study, told.economics, tmp_path / "sims.npy", (1000,))
+    risk.prepare(study, file.economics, tmp_path / "sims.npy", (1000,))
     found = done(study)
     line = found.pits(1000).iloc[4]
     held = dict(zip(study.model.blocks.id, found.pit(0.5, 1000).tolist()))
@@ -308,15 +313,15 @@ def test_likelihoods_have_the_means_of_each_process(tmp_path):
 
 def test_what_ifs_tell_what_each_process_gets(tmp_path):
     """Of the study itself and of each change, at its own costs and rates: by hand."""
-    told = read_study_file(two_ways.written(tmp_path))
+    file = read_study_file(two_ways.written(tmp_path))
     study = pp.Study.create(
-        tmp_path, told.read_model(), told.economics, told.slopes, keys=told.digest
+        tmp_path, file.read_model(), file.economics, file.slopes, keys=file.digest
     )
-    rates = pit_by_pit.Rates(600e3, None, 0.08, told.rates["process_rates"])
+    rates = pit_by_pit.Rates(600e3, None, 0.08, file.rates["process_rates"])
     changes = vary.changes_of(["processing:leach=30", "rate:leach=-50", "rate=-50"])
-    vary.prepare(study, told.economics, told.slopes, changes, 1000, rates)
+    vary.prepare(study, file.economics, file.slopes, changes, 1000, rates)
     tasks = Tasks(study.folder, study.program)
-    for task in vary.tasks(study):
+    for task in vary.vary_tasks(study):
         tasks.do(task)
     found = vary.table(study, rates)
     assert found.what.tolist() == ["base", "processing:leach", "rate:leach", "rate"]
@@ -342,8 +347,8 @@ def test_the_report_has_pushbacks_by_process(shells, rows):
 
 
 def looks_of(folder, *changes, rock=None):
-    """What `check` says looks wrong of the mine of two ways, with changes of study.toml; `rock` is what every third block of sulphide
-    is called."""
+    """What `check` says looks wrong of the mine of two ways, with changes of study.toml; `rock` is
+    what every third block of sulphide is called."""
     text = two_ways.TEXT
     for was, now in changes:
         assert was in text
@@ -358,8 +363,8 @@ def looks_of(folder, *changes, rock=None):
 
 
 def test_a_rate_that_one_of_several_processes_has_not_is_told(tmp_path):
-    _, told, keys = looks_of(tmp_path, ("rate = 120e3\n", ""))
-    assert told == [
+    _, looks, keys = looks_of(tmp_path, ("rate = 120e3\n", ""))
+    assert looks == [
         "leach has no rate: the discounted cases take its feed of the largest pit in 15 years,"
         " and the plan by years has no limit for it\n  try: rate = .. in process leach"
     ]
@@ -373,9 +378,9 @@ def test_a_rock_with_grades_that_no_process_takes_is_told(tmp_path):
     """Tonnes by the table itself."""
     by_rock = ("{ OXI = 0.7, SUL = 0.85 }", "0.8")
     of_mill = ("cost = { OXI = 11.0, SUL = 9.0 }", 'cost = 9.0\nrocks = ["OXI", "SUL"]')
-    frame, told, keys = looks_of(tmp_path, by_rock, of_mill, rock="MIXED")
+    frame, looks, keys = looks_of(tmp_path, by_rock, of_mill, rock="MIXED")
     tonnes = frame["TONNES"][frame["ROCK"] == "MIXED"].sum()
-    (look,) = told
+    (look,) = looks
     assert look.startswith(f"no process takes MIXED: {tonnes / 1e3:.2f} kt are waste; ")
     assert look.endswith('\n  try: "MIXED" in rocks of a process')
     assert keys == [("economics", "processes")]
@@ -396,23 +401,17 @@ def test_a_rock_without_grades_that_no_process_takes_is_waste_and_no_more(tmp_pa
 
 def test_a_process_that_gets_no_block_is_told(tmp_path):
     dear = ('cost = "3.0 + 0.002 * (160 - ZC)"', "cost = 90")
-    _, told, keys = looks_of(tmp_path, dear)
-    assert told == [
+    _, looks, keys = looks_of(tmp_path, dear)
+    assert looks == [
         "no block goes to leach at the full price; it costs 90 $ a tonne\n"
         "  try: cost, recovery and rocks of process leach"
     ]
     assert keys == [("economics", "processes", "leach", "cost")]
-    _, told, _ = looks_of(tmp_path, (dear[0], 'cost = "90 + ZC"'))
-    assert [look.split("\n")[0] for look in told] == ["no block goes to leach at the full price"]
+    _, looks, _ = looks_of(tmp_path, (dear[0], 'cost = "90 + ZC"'))
+    assert [look.split("\n")[0] for look in looks] == ["no block goes to leach at the full price"]
 
 
-def test_check_refuses_a_cutoff_by_year_beside_several_processes(tmp_path):
-    """As `schedule` does, and before anything is built."""
+def test_a_cutoff_by_year_may_stand_beside_several_processes(tmp_path):
     two_ways.written(tmp_path, '\n[schedule]\ncutoff = "by year"\n')
     ran = pitplan("check", str(tmp_path))
-    assert ran.returncode != 0
-    words = " ".join((ran.stdout + ran.stderr).split())
-    assert 'cutoff = "by year" chooses between one mill and waste' in words
-    assert re.search(r'study.toml:\d+: cutoff = "by year"', words)
-    two_ways.written(tmp_path, '\n[schedule]\ncutoff = "fixed"\n')
-    assert pitplan("check", str(tmp_path)).returncode == 0
+    assert ran.returncode == 0, ran.stdout + ran.stderr

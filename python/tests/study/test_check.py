@@ -1,86 +1,25 @@
-"""`pitplan check`: what is wrong with a study, and what looks wrong, without building it. The slips are those that a planner made."""
+"""`pitplan check`: what is wrong with a study, and what looks wrong, without building it. The slips
+are those that a planner made."""
 import re
-import signal
-import sys
-import time
 import warnings
-from pathlib import Path
 
 import numpy as np
 import pandas as pd
 import pytest
 
-from mines import below, table, written_study
-from processes import command, said, started
+from mines import table, written_study
+from processes import command, said
 from pitplan.study.check import check
 from pitplan.study.pit_by_pit import Rates, discounted
 from pitplan.base.error_text import lines_of
 from pitplan.base.errors import Cell, PlanError
 from pitplan.base.study_lines import line_of
-
-TOP = Path(__file__).resolve().parents[3]
-STUDY = """[model]
-table = "t.csv"
-size = [20, 20, 15]
-rotation = 0
-absent = ["-99"]
-
-[economics]
-mining = 2.0
-processing = { OXI = 7.5, SUL = 9.0 }
-mill = ["OXI", "SUL"]
-dilution = 0.05
-mining_recovery = 0.97
-metals = [
-    { name = "copper", grade = "CU", price = 8500, recovery = 0.85, payable = 0.965, selling = 420 },
-    { name = "gold", grade = "AU", grade_unit = "g/t", price = 1900, price_unit = "oz", recovery = 0.60, payable = 0.98 },
-]
-
-[slopes]
-angles = [[0, 38], [90, 45], [180, 50], [270, 42]]
-by = "SECTOR"
-regions = { WEST = 44 }
-
-[shells]
-factors = { from = 0.4, to = 1.2, step = 0.1 }
-mining_rate = 1e6
-mill_rate = 5e5
-discount = 0.08
-"""
-
-
-def cell(column, row, value):
-    """A frame with another value in one cell."""
-
-    def change(frame):
-        frame = frame.astype({column: object}) if isinstance(value, str) else frame
-        frame.loc[row, column] = value
-        return frame
-
-    return change
-
-
-def density(factor=1.0):
-    """A frame with a density in place of tonnes."""
-
-    def change(frame):
-        return frame.assign(SG=(frame["TONNES"] / 6000 * factor).round(3)).drop(columns="TONNES")
-
-    return change
-
-
-def unweighed(frame):
-    frame = density()(frame)
-    return frame.assign(SG=frame["SG"].where(frame["ZC"] < frame["ZC"].max(), -99))
+from slips import STUDY, cell, slipped
 
 
 def turned(frame):
     """The same mine, turned by 30 degrees."""
     return table(9, 8, 5, 5, rotation=30)
-
-
-def upside_down(frame):
-    return frame.assign(ZC=1000 - frame["ZC"])
 
 
 def holed(frame):
@@ -330,211 +269,6 @@ ERRORS = [
         ("shells", "mining_rate"),
     ),
 ]
-LOOKS = [
-    (
-        "a price a pound told as a tonne",
-        ("price = 8500", "price = 3.86"),
-        None,
-        "copper costs 3.86 $ a t; about 8,500 is usual\n  try: price = 8509.8 of copper",
-        ("economics", "metals", "copper", "price"),
-    ),
-    (
-        "a price a tonne told as a pound",
-        ("price = 8500", 'price = 8500, price_unit = "lb"'),
-        None,
-        'copper costs 8,500 $ a lb; about 3.86 is usual\n  try: price_unit = "t" of copper',
-        ("economics", "metals", "copper", "price"),
-    ),
-    (
-        "gold a gram told as an ounce",
-        ("price = 1900", "price = 61"),
-        None,
-        'gold costs 61 $ a oz; about 1,900 is usual\n  try: price = 1897.3 of gold, or price_unit = "g"',
-        ("economics", "metals", "gold", "price"),
-    ),
-    (
-        "percent told as ppm",
-        ('grade = "CU"', 'grade = "CU", grade_unit = "ppm"'),
-        None,
-        "copper brings 0.",
-        ("economics", "metals", "copper"),
-    ),
-    (
-        "g/t told as percent",
-        ('grade_unit = "g/t"', 'grade_unit = "%"'),
-        None,
-        "the ore brings",
-        ("economics", "metals"),
-    ),
-    (
-        "density in kg/m3",
-        None,
-        density(1000),
-        "for each cubic unit; rock has 1.5 to 5",
-        ("model", "size"),
-    ),
-    (
-        "kilotonnes",
-        None,
-        lambda frame: frame.assign(TONNES=frame["TONNES"] / 1000),
-        "for each cubic unit; rock has 1.5 to 5",
-        ("model", "size"),
-    ),
-    (
-        "costs in cents",
-        ("OXI = 7.5, SUL = 9.0", "OXI = 750, SUL = 900"),
-        None,
-        "no block pays for its treatment",
-        ("economics", "metals"),
-    ),
-    (
-        "forbid that holds nowhere",
-        ("mining = 2.0", 'mining = 2.0\nforbid = ["XC > 60000"]'),
-        None,
-        "holds for no block",
-        ("economics", "forbid"),
-    ),
-    (
-        "forbid that holds everywhere",
-        ("mining = 2.0", 'mining = 2.0\nforbid = ["XC > 500"]'),
-        None,
-        "forbid keeps .* blocks of rock from being dug; it keeps a corridor",
-        ("economics", "forbid"),
-    ),
-    (
-        "z counted downward",
-        None,
-        upside_down,
-        'ground is uneven above, not below\n  try: z = "depth" in [model]',
-        ("model", "z"),
-    ),
-    (
-        "a depth as an elevation",
-        ("size =", 'columns = { z = "DEPTH" }\nsize ='),
-        lambda frame: frame.rename(columns={"ZC": "DEPTH"}),
-        "z is read from DEPTH as an elevation",
-        ("model", "z"),
-    ),
-    (
-        "a density that isn't known counts as 0",
-        None,
-        unweighed,
-        "rows have no SG, as absent says, and weigh nothing",
-        ("model", "absent"),
-    ),
-    (
-        "x and y swapped in a model that isn't turned",
-        ("rotation = 0", 'columns = { x = "YC", y = "XC" }'),
-        None,
-        'YC is a usual name of y.*\n  try: columns = { x = "XC", y = "YC", .*z = "ZC", .* } in',
-        ("model", "columns", "x"),
-    ),
-    (
-        "digging for nothing",
-        ("mining = 2.0", "mining = 0"),
-        None,
-        "digging costs nothing for 296 of 296 blocks",
-        ("economics", "mining"),
-    ),
-    (
-        "one cell a thousand times too large",
-        None,
-        cell("AU", 7, 1610.0),
-        "row 9 has 1,610 g/t in AU; the next largest cell is 0.",
-        ("economics", "metals", "gold", "grade"),
-    ),
-    (
-        "a block that weighs too much",
-        None,
-        cell("TONNES", 7, 1.5e6),
-        "row 9 weighs 1,500,000 tonnes; half of all blocks weigh 1",
-        ("model", "columns"),
-    ),
-    (
-        "a formula by which a rock of the mill weighs nothing",
-        ("rotation = 0", "rotation = 0\ntonnes = \"where(ROCK == 'OXI', 2.35, 0) * 6000\""),
-        None,
-        "SUL weighs nothing in any of its 154 blocks by the formula of tonnes, and is in mill",
-        ("model", "tonnes"),
-    ),
-    (
-        "a density ten times too large",
-        None,
-        lambda frame: cell("SG", 7, 26.7)(density()(frame)),
-        "row 9 has a density of 26.7 by SG; half of all blocks have 2.49",
-        ("model", "columns"),
-    ),
-    (
-        "a density many times that of light rock",
-        None,
-        lambda frame: cell("SG", 7, 6.5)(density(0.4)(frame)),
-        "row 9 has a density of 6.5 by SG; half of all blocks have 0.997",
-        ("model", "columns"),
-    ),
-    (
-        "selling a pound told as a tonne",
-        ("selling = 420", "selling = 0.19"),
-        None,
-        "selling a t of copper costs 0.19, and its price is 8,500",
-        ("economics", "metals", "copper", "selling"),
-    ),
-    (
-        "selling a tonne told as a pound",
-        ("price = 8500, recovery", 'price = 3.86, price_unit = "lb", recovery'),
-        None,
-        "selling a lb of copper costs 420",
-        ("economics", "metals", "copper", "selling"),
-    ),
-    (
-        "rates the other way round",
-        ("mining_rate = 1e6\nmill_rate = 5e5", "mining_rate = 5e5\nmill_rate = 1e6"),
-        None,
-        "no more is milled than is dug",
-        ("shells", "mill_rate"),
-    ),
-    (
-        "a rate in million tonnes",
-        ("mill_rate = 5e5", "mill_rate = 0.5"),
-        None,
-        "at 0.5 tonnes a year the ore of the whole model takes",
-        ("shells", "mill_rate"),
-    ),
-    (
-        "a rate a day",
-        ("mining_rate = 1e6\nmill_rate = 5e5", "mining_rate = 2740\nmill_rate = 1370"),
-        None,
-        "at 2,740 tonnes a year the rock of the whole model takes",
-        ("shells", "mining_rate"),
-    ),
-    (
-        "bearings against the clock",
-        ("[[0, 38], [90, 45], [180, 50], [270, 42]]", "[[270, 38], [180, 45], [90, 50], [0, 42]]"),
-        None,
-        "a bearing counts clockwise from north",
-        ("slopes", "angles"),
-    ),
-    (
-        "a region on the wrong side",
-        ("rotation = 0", "rotation = 0"),
-        lambda frame: frame.assign(SECTOR=np.where(frame["SECTOR"] == "WEST", "EAST", "WEST")),
-        "the region WEST lies on the other side",
-        ("slopes", "regions", "WEST"),
-    ),
-    (
-        "a column of percent that nothing reads",
-        None,
-        lambda frame: frame.assign(**{"TOPO%": np.linspace(3, 100, len(frame)).round(1)}),
-        "nothing reads the column TOPO%, which is from 3 to 100",
-        ("model", "columns"),
-    ),
-]
-
-
-def slipped(folder, text, frame):
-    was, now = text or ("", "")
-    assert was in STUDY
-    base = table(9, 8, 5, 5)
-    return written_study(folder, base if frame is None else frame(base), STUDY.replace(was, now, 1))
 
 
 @pytest.mark.parametrize(
@@ -545,122 +279,6 @@ def test_a_slip_is_an_error(tmp_path, text, frame, said, key):
     assert len(found.errors) == 1, [(str(error), error.key) for error in found.errors]
     assert said in str(found.errors[0]), [(str(error), error.key) for error in found.errors]
     assert found.errors[0].key == key, [(str(error), error.key) for error in found.errors]
-
-
-@pytest.mark.parametrize(
-    "text, frame, said, key", [row[1:] for row in LOOKS], ids=[row[0] for row in LOOKS]
-)
-def test_a_slip_looks_wrong(tmp_path, text, frame, said, key):
-    found = check(slipped(tmp_path / "s", text, frame))
-    assert not found.errors, list(map(str, found.errors))
-    hits = [
-        look
-        for look in found.looks
-        if re.search(
-            said.replace("[", r"\[")
-            .replace("(", r"\(")
-            .replace("$", r"\$")
-            .replace("+", r"\+")
-            .replace("%", "%"),
-            str(look),
-        )
-    ]
-    assert len(hits) == 1, [(str(look), look.key) for look in found.looks]
-    assert hits[0].key == key, [(str(look), look.key) for look in found.looks]
-    assert hits[0].try_this, [(str(look), look.key) for look in found.looks]
-
-
-def test_a_rock_with_grades_that_weighs_nothing_looks_wrong(tmp_path):
-    """Its blocks and those with a grade are counted in the table; air, a rock without any grade, and
-    one that weighs something in a block are right."""
-    base = table(9, 8, 5, 5)
-    kinds = np.array(["OXI", "SUL", "DYKE", "VOID", "air", "PART"])
-    frame = base.assign(ROCK=kinds[np.arange(len(base)) % 6])
-    frame.loc[frame.ROCK.isin(["VOID", "air"]), ["CU", "AU"]] = 0.0
-    weights = "where(ROCK == 'OXI' or ROCK == 'SUL' or ROCK == 'PART' and ZC > 120, 2.4, 0) * 6000"
-    text = STUDY.replace("rotation = 0", f'rotation = 0\ntonnes = "{weights}"')
-    text = text.replace("SUL = 9.0", "SUL = 9.0, other = 0")
-    found = check(written_study(tmp_path / "s", frame, text))
-    assert not found.errors, list(map(str, found.errors))
-    dyke = frame[frame.ROCK == "DYKE"]
-    graded = ((dyke.CU > 0) | (dyke.AU > 0)).sum()
-    (hit,) = [str(look) for look in found.looks if "weighs nothing" in str(look)]
-    assert f"DYKE weighs nothing in any of its {len(dyke)} blocks" in hit
-    assert f"and has grades in {graded}" in hit
-    assert "tonnes in [model]" in hit
-
-
-def test_nothing_looks_wrong_in_a_mine_that_is_right(tmp_path):
-    found = check(slipped(tmp_path / "s", None, None))
-    assert not found.errors, (found.errors, list(map(str, found.looks)))
-    assert not found.looks, (found.errors, list(map(str, found.looks)))
-
-
-HILL = (
-    re.search(
-        r"\$ cat hill/study.toml\n(.*?)\n\nWhat", (TOP / "docs" / "PLANNING.md").read_text(), re.S
-    )[1]
-    .replace("\n    ", "\n")
-    .strip()
-    .replace("../examples", str(TOP / "examples"))
-)
-PLAIN = """[model]
-table = "t.csv"
-size = [20, 20, 10]
-[economics]
-mining = 2.1
-processing = 9.5
-metals = [ { name = "copper", grade = "grade", price = 6500, recovery = 0.88 } ]
-[slopes]
-angles = 45
-"""
-
-
-WALLS = PLAIN.replace("[20, 20, 10]", "[10, 10, 10]").replace('"grade"', '"CU"')
-
-
-def of_the_day(path):
-    sys.path.insert(0, str(TOP / "tests"))
-    from program import day_mine
-
-    with open(path, "w", newline="") as file:
-        day_mine.write_table(day_mine.blocks(), file)
-
-
-def of_examples(path):
-    path.write_bytes((TOP / "examples" / "small_model.csv").read_bytes())
-
-
-def of_a_cliff(path):
-    below(3).to_csv(path, index=False)
-
-
-@pytest.mark.parametrize(
-    "text, write",
-    [(HILL, None), (PLAIN, of_the_day), (PLAIN, of_examples), (WALLS, of_a_cliff)],
-    ids=["the hill", "tests/day", "small_model.csv", "beside a cliff"],
-)
-def test_nothing_looks_wrong_in_the_mines_of_the_repository(tmp_path, text, write):
-    (tmp_path / "study.toml").write_text(text)
-    if write:
-        write(tmp_path / "t.csv")
-    found = check(tmp_path)
-    assert not found.errors, ([*map(str, found.errors)], [*map(str, found.looks)])
-    assert not found.looks, ([*map(str, found.errors)], [*map(str, found.looks)])
-    assert found.priced is not None, ([*map(str, found.errors)], [*map(str, found.looks)])
-
-
-@pytest.mark.parametrize("seed", range(4))
-def test_nothing_looks_wrong_in_mines_of_the_tests(tmp_path, seed):
-    found = check(
-        written_study(
-            tmp_path / "s",
-            table(9, 8, 5, seed, rotation=30 * seed),
-            STUDY.replace("rotation = 0", f"rotation = {30 * seed}"),
-        )
-    )
-    assert not found.errors, ([*map(str, found.errors)], [*map(str, found.looks)])
-    assert not found.looks, ([*map(str, found.errors)], [*map(str, found.looks)])
 
 
 # Twelve mistakes in one study: nine of study.toml, and three that are found in the table.
@@ -763,34 +381,6 @@ def test_check_says_each_error_and_its_line_and_shows_the_tonnage(tmp_path):
         assert ends in said("check", folder)
 
 
-def until(log, words):
-    """Whether a file comes to have words."""
-    for _ in range(12000):
-        if words in log.read_text():
-            return True
-        time.sleep(0.05)
-    return False
-
-
-def test_check_watches_what_is_saved(tmp_path):
-    folder, log = (
-        written_study(tmp_path / "s", text=STUDY.replace("dilution = 0.05", "dilution = 5")),
-        tmp_path / "log",
-    )
-    with open(log, "w") as file:
-        run = started(
-            [TOP / "bin" / "pitplan", "check", folder, "--watch"], stdout=file, stderr=file
-        )
-        assert until(log, "1 error; ctrl-C ends")
-        assert "dilution is 5" in log.read_text()
-        (folder / "study.toml").write_text(STUDY)
-        assert until(log, "nothing is wrong; ctrl-C ends")
-        assert log.read_text().count("ctrl-C ends") == 2
-        run.send_signal(signal.SIGINT)
-        assert run.wait(600) == 130
-        assert log.read_text().endswith("stopped\n")
-
-
 def test_rows_are_spelled_alike_in_a_message():
     error = PlanError("no number", row=4335).with_cells([Cell(4336, "x")])
     assert lines_of(error) == ["row 4337: no number", "  also row 4338: 'x'"]
@@ -807,7 +397,8 @@ def test_a_mine_that_takes_for_ever_is_worth_nothing_and_no_warning():
 
 
 def test_a_wrong_key_hides_no_other(tmp_path):
-    """What is wrong in study.toml by itself, and what the table says of its other keys, are told at once."""
+    """What is wrong in study.toml by itself, and what the table says of its other keys, are told at
+    once."""
     text = STUDY
     for was, now in (
         ("dilution = 0.05", "dilution = 5"),
@@ -963,8 +554,8 @@ HIDDEN = {
 
 @pytest.mark.parametrize("changes, frame, keys", HIDDEN.values(), ids=HIDDEN)
 def test_nothing_hides_what_doesnt_hang_on_it(tmp_path, changes, frame, keys):
-    told, words = keys_told(tmp_path, changes, frame)
-    assert told == sorted(keys, key=str), words
+    found, words = keys_told(tmp_path, changes, frame)
+    assert found == sorted(keys, key=str), words
 
 
 BY_DEPTH = [
@@ -1046,115 +637,14 @@ HANGS = {
 
 @pytest.mark.parametrize("changes, frame, keys", HANGS.values(), ids=HANGS)
 def test_what_hangs_on_a_mistake_waits(tmp_path, changes, frame, keys):
-    told, words = keys_told(tmp_path, changes, frame)
-    assert told == sorted(keys, key=str), words
+    found, words = keys_told(tmp_path, changes, frame)
+    assert found == sorted(keys, key=str), words
 
 
 def test_a_formula_that_gives_no_number_is_told_by_the_row_of_the_table(tmp_path):
     _, words = keys_told(tmp_path, [("mining = 2.0", 'mining = "sqrt(ZC - 101)"')])
     assert len(words) == 1, words
     assert re.match(r"t\.csv, row \d+: \[economics\] mining", words[0]), words
-
-
-# Lines that are no TOML, and what has to be typed in their place.
-NO_TOML = [
-    ('by = "SECTOR"', "by = SECTOR", 'by = "SECTOR"'),
-    ("mill_rate = 5e5", "mill_rate = 5e5 t/a", "mill_rate = 5e5"),
-    ("mining = 2.0", "mining = 2,0", "mining = 2.0"),
-    ("mill_rate = 5e5", "mill_rate = 500,000", "mill_rate = 500000"),
-    ("discount = 0.08", "discount = 8 %", "discount = 0.08"),
-    ("rotation = 0", "rotation = 0°", "rotation = 0"),
-    ("rotation = 0", "rotation: 0", "rotation = 0"),
-    ("dilution = 0.05", "dilution = .05", "dilution = 0.05"),
-    ("[20, 20, 15]", "[20; 20; 15]", "size = [20, 20, 15]"),
-    ("[20, 20, 15]", "[20, 20, 15", "size = [20, 20, 15 ]"),
-    ('by = "SECTOR"', "by = “SECTOR”", 'by = "SECTOR"'),
-    ('by = "SECTOR"', 'by = "SECTOR', 'by = "SECTOR"'),
-    ('table = "t.csv"', 'table = "C:\\mine\\t.csv"', "table = 'C:\\mine\\t.csv'"),
-    ("rotation = 0", "regularise = False", "regularise = false"),
-    ("regions = { WEST = 44 }", "regions = { WEST = 44", "regions = { WEST = 44 }"),
-]
-
-
-@pytest.mark.parametrize("was, now, wanted", NO_TOML, ids=[row[1] for row in NO_TOML])
-def test_a_line_that_is_no_toml_is_told_with_what_is_meant(tmp_path, was, now, wanted):
-    assert was in STUDY
-    found = check(written_study(tmp_path / "s", table(9, 8, 5, 5), STUDY.replace(was, now, 1)))
-    first = found.errors[0]
-    at = next(i for i, line in enumerate(STUDY.splitlines(), 1) if was in line)
-    assert first.what.startswith(f"line {at} isn't TOML: ")
-    assert first.try_this == wanted
-    assert [error.what for error in found.errors[1:]] == []
-
-
-def test_a_statement_of_several_lines_is_mended_in_the_line_that_is_wrong(tmp_path):
-    text = STUDY.replace('price_unit = "oz"', "price_unit = oz")
-    found = check(written_study(tmp_path / "s", table(9, 8, 5, 5), text))
-    at = next(i for i, line in enumerate(text.splitlines(), 1) if "= oz" in line)
-    assert [error.key for error in found.errors] == [("economics", "metals")]
-    assert found.errors[0].what.startswith(f"line {at} isn't TOML")
-    assert 'price_unit = "oz", recovery = 0.60' in found.errors[0].try_this
-
-
-def test_what_stands_twice_is_told_with_the_first(tmp_path):
-    text = STUDY.replace("dilution = 0.05", "dilution = 0.05\nmining = 3.0\nmill_rate = 7")
-    found = check(written_study(tmp_path / "s", table(9, 8, 5, 5), text))
-    assert [(error.what, error.key) for error in found.errors] == [
-        ("line 12: mining stands here again, after line 8", ("economics", "mining")),
-        (
-            "[economics] has no key 'mill_rate'; is 'mill' meant?",
-            ("economics", "mill_rate"),
-        ),
-    ]
-    twice = check(written_study(tmp_path / "s", text=STUDY + "[model]\nwiden = 1\n"))
-    assert [error.what for error in twice.errors] == [
-        f"line {STUDY.count(chr(10)) + 1}: the section [model] stands here again"
-    ]
-
-
-@pytest.mark.parametrize(
-    "text",
-    [
-        "widen = 1\nwiden = 1\n" + STUDY,
-        "= 3\n" + STUDY,
-        "[model\n" + STUDY,
-        STUDY + "x = " + 600 * "[" + "\n",
-        STUDY + 'x = "' + 10**6 * " " + "\n",
-        STUDY + "x = [\n" + 200 * "1,\n" + "by = 3\n",
-        3000 * "a\n" + STUDY,
-        "\x00" + STUDY,
-    ],
-    ids=["twice outside", "no key", "half a header", "deep", "wide", "long", "many lines", "zero"],
-)
-def test_what_is_no_toml_in_another_way_is_told_too(tmp_path, text):
-    found = check(written_study(tmp_path / "s", table(9, 8, 5, 5), text))
-    assert found.errors
-    assert all("TOML" in error.what for error in found.errors[:1])
-
-
-def test_a_line_that_is_no_toml_hides_no_other(tmp_path):
-    text = STUDY
-    for was, now in (
-        ('by = "SECTOR"', "by = SECTOR"),
-        ("rotation = 0", "rotation = 0°"),
-        ("discount = 0.08", "discount = 8"),
-        ('"SUL"]', '"SULF"]'),
-        ("mining = 2.0", 'mining = "2.0 + ZZC"'),
-    ):
-        text = text.replace(was, now, 1)
-    folder = written_study(tmp_path / "s", table(9, 8, 5, 5), text)
-    assert {error.key for error in check(folder).errors} == {
-        ("slopes", "by"),
-        ("model", "rotation"),
-        ("shells", "discount"),
-        ("economics", "mill"),
-        ("economics", "mining"),
-    }
-    ran = command("build", folder)
-    _, faults = ran.communicate(timeout=600)
-    assert ran.returncode == 3
-    at = next(i for i, line in enumerate(text.splitlines(), 1) if line == "by = SECTOR")
-    assert f'  study.toml:{at}: by = SECTOR\n  try: by = "SECTOR"\n' in faults
 
 
 def test_a_table_that_isn_t_there_is_told_beside_wrong_keys(tmp_path):
@@ -1165,8 +655,8 @@ def test_a_table_that_isn_t_there_is_told_beside_wrong_keys(tmp_path):
 
 
 def test_a_wrong_angle_of_a_region_hides_no_region(tmp_path):
-    told, words = keys_told(tmp_path, [("WEST = 44", "WEST = 96, NORRTH = 44")])
-    assert told == [("slopes", "regions", "NORRTH"), ("slopes", "regions", "WEST")], words
+    found, words = keys_told(tmp_path, [("WEST = 44", "WEST = 96, NORRTH = 44")])
+    assert found == [("slopes", "regions", "NORRTH"), ("slopes", "regions", "WEST")], words
 
 
 def test_a_unit_by_another_name_is_told_by_ours(tmp_path):
@@ -1189,7 +679,7 @@ def test_classes_are_looked_up_where_places_are_wrong(tmp_path):
         '[model]\ntable = "t.csv"\nsize = [20, 20, 15]\n[economics]\nmining = 2.0\nprocessing = 9\n'
         'waste_classes = ["INF", "IND"]\nmetals = [ { name = "copper", grade = "CU", price = 8500 } ]\n[slopes]\nangles = 45\n'
     )
-    told = [str(error) for error in check(written_study(tmp_path / "s", frame, toml)).errors]
-    assert len(told) == 2
-    assert "row 5, column XC" in told[0]
-    assert "waste_classes: no block is of class 'IND'" in told[1]
+    file = [str(error) for error in check(written_study(tmp_path / "s", frame, toml)).errors]
+    assert len(file) == 2
+    assert "row 5, column XC" in file[0]
+    assert "waste_classes: no block is of class 'IND'" in file[1]

@@ -13,8 +13,8 @@ from pitplan.study import edges
 
 
 def leading_out(study, only=None):
-    """Whether each block has an offset that leads out of the sides of a box that is full up to a flat ground; by the slopes of its
-    region, or of one for all."""
+    """Whether each block has an offset that leads out of the sides of a box that is full up to a
+    flat ground; by the slopes of its region, or of one for all."""
     b, (nx, ny, nz), offsets = study.model.blocks, study.model.grid.shape, study.offsets
     for x, y, z, name in zip(
         b.ix, b.iy, b.iz, b["SECTOR"] if "SECTOR" in b else ["default"] * len(b)
@@ -58,7 +58,8 @@ def test_where_a_pit_touches_the_side_of_the_model(tmp_path):
 
 
 def test_the_side_is_looked_at_by_the_slopes_of_each_block_s_region(tmp_path):
-    """Of each block of a full box, of which one half has flat slopes: these lead out of the box from further within."""
+    """Of each block of a full box, of which one half has flat slopes: these lead out of the box
+    from further within."""
     frame = flat(9, 8, 4, (4, 4, 0)).assign(SECTOR=lambda f: np.where(f.XC < 80, "WEST", "EAST"))
     study = study_of(tmp_path, frame, pp.Slopes(50, by="SECTOR", regions={"EAST": 25}))
     steep, low = (np.array(list(leading_out(study, only=name))) for name in ("default", "EAST"))
@@ -82,10 +83,11 @@ def test_a_notch_in_the_side_and_low_ground_beside_a_pit(tmp_path):
 
 
 def asks_for(place, where, offsets, top, low):
-    """Whether one of a block's offsets leads to a place that isn't in the model and isn't air, place by place.
+    """Whether one of a block's offsets leads to a place that isn't in the model and isn't air,
+    place by place.
 
-    `where` says what a column is: "rows", "shaft", or nothing where it has no row and the way out is free; there and beyond the sides
-    the ground goes on as in the nearest column.
+    `where` says what a column is: "rows", "shaft", or nothing where it has no row and the way out
+    is free; there and beyond the sides the ground goes on as in the nearest column.
     """
     (nx, ny), found = top.shape, False
     for offset in offsets:
@@ -152,7 +154,8 @@ def with_air(f, levels):
 
 
 def test_rows_of_air_are_no_ground_beyond_the_side(tmp_path):
-    """The pit comes to the side on the highest bench: its slope asks for places of air there, with rows of air in the table or without."""
+    """The pit comes to the side on the highest bench: its slope asks for places of air there, with
+    rows of air in the table or without."""
     costs_of_rock = costs(processing={"SUL": 9.0, "AIR": 0.0})
     for x, touches in ((3, False), (2, True)):
         bare = flat(13, 13, 5, (x, 6, 0))

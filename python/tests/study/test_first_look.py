@@ -1,5 +1,4 @@
 """What `pitplan init` finds in a table, and the study.toml that it writes."""
-import re
 import tomllib
 
 import numpy as np
@@ -7,9 +6,7 @@ import pytest
 
 from mines import table
 from pitplan.study import first_look
-from pitplan.table import study_keys
 from pitplan.base.errors import PlanError
-from pitplan.table.formula import worked_out
 from pitplan.study.study_file import read_study_file
 from served import pitplan
 
@@ -36,9 +33,9 @@ def test_init_sees_marks_sub_blocks_and_descriptions(tmp_path):
     assert look.dialect.skip == 1
     text = first_look.written(look, "t.csv")
     (tmp_path / "study.toml").write_text(text)
-    told = read_study_file(tmp_path)
-    assert told.keys.absent == ["-99"]
-    assert told.keys.regularise
+    file = read_study_file(tmp_path)
+    assert file.keys.absent == ["-99"]
+    assert file.keys.regularise
 
 
 def test_init_tells_marks_of_nines_and_each_of_several(tmp_path):
@@ -132,7 +129,8 @@ def test_init_names_the_column_of_regions(tmp_path, column, values, wanted):
     ids=["codes", "with empty cells", "by level", "mixed", "yes and no", "halves", "many"],
 )
 def test_init_names_a_column_of_codes_that_go_up(tmp_path, code, wanted):
-    """A name says nothing here: whole numbers that are the same over whole columns are offered, and others aren't."""
+    """A name says nothing here: whole numbers that are the same over whole columns are offered, and
+    others aren't."""
     f = table(6, 5, 4, 3).drop(columns="SECTOR")
     f.assign(GTC=code(f)).to_csv(tmp_path / "t.csv", index=False)
     look = first_look.look_at(tmp_path / "t.csv")
@@ -147,7 +145,8 @@ def test_the_numbers_of_many_sectors_are_no_grade(tmp_path):
 
 
 def test_no_cell_of_a_table_ends_a_line_of_study_toml(tmp_path):
-    """A cell may have several lines; in study.toml the second would be a line of its own, as a price."""
+    """A cell may have several lines; in study.toml the second would be a line of its own, as a
+    price."""
     f = table(6, 5, 4, 3)
     f["ROCK"], f["SECTOR"] = f.ROCK + '"]\nforbid = ["1 > 0"]\n#', f.SECTOR + "\nsafe = true"
     f.to_csv(tmp_path / "t.csv", index=False)
@@ -155,9 +154,9 @@ def test_no_cell_of_a_table_ends_a_line_of_study_toml(tmp_path):
     assert any("\n" in rock for rock in look.rocks)
     assert any("\n" in name for name in look.regions)
     (tmp_path / "study.toml").write_text(first_look.written(look, "t.csv"))
-    told = read_study_file(tmp_path)
-    assert not told.economics.forbid
-    assert not told.slopes.safe
+    file = read_study_file(tmp_path)
+    assert not file.economics.forbid
+    assert not file.slopes.safe
 
 
 def test_a_metal_with_a_few_grades_below_0_is_still_a_metal(tmp_path):
@@ -167,42 +166,6 @@ def test_a_metal_with_a_few_grades_below_0_is_still_a_metal(tmp_path):
     look = first_look.look_at(tmp_path / "t.csv")
     assert "CU" in look.grades
     assert 'grade = "CU"' in first_look.written(look, "t.csv")
-
-
-def test_every_key_that_init_writes_is_known_and_explained(tmp_path):
-    table(6, 5, 3, 3).to_csv(tmp_path / "t.csv", index=False)
-    text = first_look.written(first_look.look_at(tmp_path / "t.csv"), "t.csv")
-    lines = text.splitlines()
-    for before, line in zip(lines, lines[1:]):
-        if " = " in line and not line.startswith(("#", " ", "table", "currency")):
-            assert "#" in line or before.startswith("#"), line
-    from dataclasses import fields
-    from pitplan.model.economics import Economics, Metal
-    from pitplan.model.model import TableKeys
-
-    written = {key.name for key in study_keys.KEYS if key.is_written}
-    for f in (*fields(TableKeys), *fields(Economics), *fields(Metal)):
-        assert f.name in text or f.name not in written, f.name
-
-
-@pytest.mark.parametrize("name", ["ZC", "Cota (m)", "Elevação m", "RL'0", "class"])
-def test_the_formulas_that_init_shows_name_the_table_s_own_columns(tmp_path, name):
-    f = table(5, 4, 3, 1).rename(columns={"ZC": name, "XC": "x " + name})
-    f.to_csv(tmp_path / "t.csv", index=False)
-    text = first_look.written(
-        first_look.look_at(tmp_path / "t.csv", {"z": name, "x": "x " + name}), "t.csv"
-    )
-    shown = [
-        re.search(pattern, text)[1]
-        for pattern in (
-            r'a formula as ("2\.2 .*? / 10")',
-            r'may not be dug, as \[(".*? > 12000")\]',
-        )
-    ]
-    told = tomllib.loads("formulas = [" + ", ".join(shown) + "]")["formulas"]
-    height, beyond = (worked_out(formula, f, "shown") for formula in told)
-    assert np.allclose(height, 2.2 + 0.02 * (1500 - f[name]) / 10)
-    assert (beyond == (f["x " + name] > 12000)).all()
 
 
 def test_a_metal_with_unknown_words_among_its_grades_is_told(tmp_path):
@@ -259,20 +222,3 @@ def test_no_rock_is_left_out_of_the_processes_that_init_offers(tmp_path, more):
     for line in listed:
         assert sorted(tomllib.loads(line)["rocks"]) == sorted(rocks)
     assert 'rocks = ["OXI"]' in leach
-
-
-def test_the_processes_that_init_offers_are_a_study_once_they_are_no_comment(tmp_path):
-    table(6, 5, 3, 3).to_csv(tmp_path / "t.csv", index=False)
-    text = first_look.written(first_look.look_at(tmp_path / "t.csv"), "t.csv")
-    lines = text.split("\n")
-    at = next(i for i, line in enumerate(lines) if "in place of processing and mill" in line)
-    end = next(i for i in range(at, len(lines)) if not lines[i].startswith("#"))
-    lines[at + 1 : end] = [line[2:] for line in lines[at + 1 : end]]
-    kept = [line for line in lines if not re.match(r"(processing|mill_rate) =", line)]
-    (tmp_path / "study.toml").write_text("\n".join(kept))
-    told = read_study_file(tmp_path)
-    (mill, leach) = told.economics.processes
-    assert (mill.name, sorted(mill.rocks), mill.cost) == ("mill", ["OXI", "SUL"], 9.0)
-    assert (leach.name, leach.rocks, leach.recovery) == ("leach", ["OXI"], {"copper": 0.6})
-    goes = told.economics.priced(told.read_model()).destinations(1000)
-    assert set(goes) == {"mill", "leach", "waste"}

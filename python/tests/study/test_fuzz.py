@@ -1,11 +1,12 @@
-"""A short run of the fuzzer over damaged studies; `python3 python/tests/support/fuzz_studies.py 20000` is the long one."""
-import fuzz_studies
+"""A short run of the fuzzer over damaged studies; `python3 python/tests/support/fuzz_studies.py
+20000` is the long one."""
 import pytest
 
+import fuzz_studies
 import mines
 import pitplan as pp
-from pitplan.study import shells
 from pitplan.base.errors import PlanError
+from pitplan.study import shells
 
 
 def test_each_damaged_study_is_answered():
@@ -46,7 +47,7 @@ def test_a_first_row_with_more_cells_than_the_header_is_told(tmp_path):
 
 
 @pytest.mark.parametrize(
-    "change, told",
+    "change, words",
     [
         (
             lambda text: text.replace(",ZC", ",\rZC", 1),
@@ -62,32 +63,10 @@ def test_a_first_row_with_more_cells_than_the_header_is_told(tmp_path):
         ),
     ],
 )
-def test_a_header_line_that_is_none_is_told(tmp_path, change, told):
+def test_a_header_line_that_is_none_is_told(tmp_path, change, words):
     (tmp_path / "t.csv").write_bytes(change(mines.table(4, 4, 3, 1).to_csv(index=False)).encode())
-    with pytest.raises(PlanError, match=told):
+    with pytest.raises(PlanError, match=words):
         pp.read_table(tmp_path / "t.csv", size=mines.SIZE)
-
-
-def test_a_name_with_a_byte_of_zeros_is_told():
-    with pytest.raises(PlanError, match="can't be opened"):
-        pp.read_table("\0", size=mines.SIZE)
-
-
-@pytest.mark.filterwarnings("error")
-@pytest.mark.parametrize("size", [(1e-320, 20, 15), (20, 20, 1e-300), (1e-9, 20, 15)])
-def test_a_size_of_next_to_nothing_is_told(tmp_path, size):
-    mines.table(4, 4, 3, 1).to_csv(tmp_path / "t.csv", index=False)
-    with pytest.raises(PlanError, match="more than 1,000,000,000 blocks of .* away"):
-        pp.read_table(tmp_path / "t.csv", size=size)
-
-
-@pytest.mark.parametrize(
-    "what, keys", [("widen = 9", {"widen": 9 * 10**18}), ("widen = 100,000", {"widen": 100_000})]
-)
-def test_a_model_is_not_widened_without_end(tmp_path, what, keys):
-    mines.table(4, 4, 3, 1).to_csv(tmp_path / "t.csv", index=False)
-    with pytest.raises(PlanError, match=what):
-        pp.read_table(tmp_path / "t.csv", size=mines.SIZE, **keys)
 
 
 @pytest.mark.filterwarnings("error")
@@ -100,13 +79,3 @@ def test_an_amount_that_is_no_number_is_refused(tmp_path):
     )  # where the mill takes nothing, more than a float holds times 0 is no number
     with pytest.raises(PlanError, match="for one block: is a unit wrong"):
         costs.priced(pp.read_table(tmp_path / "t.csv", size=mines.SIZE))
-
-
-def test_words_that_a_terminal_would_obey_are_shown_and_not_sent(tmp_path):
-    frame = mines.table(4, 4, 3, 1)
-    frame["ROCK"] = "\x1b[2J\x07"
-    frame.to_csv(tmp_path / "t.csv", index=False)
-    with pytest.raises(PlanError) as told:
-        mines.costs().priced(pp.read_table(tmp_path / "t.csv", size=mines.SIZE))
-    assert "\\x1b[2J\\x07" in str(told.value)
-    assert str(told.value).replace("\n  try: ", "").isprintable()

@@ -66,7 +66,8 @@ def test_discounting_by_hand(two_metals):
 
 
 def test_a_rate_in_another_unit_is_refused_and_warns_of_nothing(two_metals):
-    """Thousands or millions of tonnes a year for tonnes; the years are the tonnes of the largest pit by the rate."""
+    """Thousands or millions of tonnes a year for tonnes; the years are the tonnes of the largest
+    pit by the rate."""
     shells, _ = two_metals
     rock = shells.table().rock_t.iloc[-1]
     with warnings.catch_warnings():
@@ -92,8 +93,8 @@ def test_rates_that_are_not_told_take_the_largest_pit_in_15_years(two_metals):
     rates = {"mining_rate": f.TONNES.sum() / 15, "mill_rate": ore * 0.9 * 1.1 / 15}
     for own in ((), ("mining_rate",), ("mill_rate",), tuple(rates)):
         found, wanted = (
-            shells.table(discount=0.1, **told)
-            for told in ({name: rates[name] for name in own}, rates)
+            shells.table(discount=0.1, **shown)
+            for shown in ({name: rates[name] for name in own}, rates)
         )
         for column in ("npv_best", "npv_worst", "years"):
             assert np.allclose(found[column], wanted[column], rtol=1e-9), (own, column)

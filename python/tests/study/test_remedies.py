@@ -23,7 +23,8 @@ HEADER = ROWS[0].split(",")
 
 
 def mine(folder, was="", now="", cells=()):
-    """The walk's study in a folder, with a change of study.toml and other cells, as (row, column, text)."""
+    """The walk's study in a folder, with a change of study.toml and other cells, as (row, column,
+    text)."""
     assert was in STUDY
     rows = list(ROWS)
     for row, column, text in cells:
@@ -74,9 +75,9 @@ def test_a_price_that_is_off_is_told_alone_with_what_selling_fits(tmp_path, now,
         path = folder / "study.toml"
         path.write_text(path.read_text().replace(", selling = 420", ""))
     found = check(folder)
-    told = [look for look in found.looks if look.key[2:3] == ("copper",)]
-    assert [look.key[-1] for look in told] == ["price"], list(map(str, found.looks))
-    assert told[0].try_this == wanted
+    looks = [look for look in found.looks if look.key[2:3] == ("copper",)]
+    assert [look.key[-1] for look in looks] == ["price"], list(map(str, found.looks))
+    assert looks[0].try_this == wanted
 
 
 @pytest.mark.parametrize(
@@ -84,8 +85,8 @@ def test_a_price_that_is_off_is_told_alone_with_what_selling_fits(tmp_path, now,
     [("0.35O", "0.350"), ("o.35", "0.35"), ("l.2", "1.2"), ("I2", "12"), ("1e-O2", "1e-02")],
 )
 def test_a_letter_in_a_number_is_told_as_the_digit(tmp_path, cell, number):
-    told = only_error(mine(tmp_path / "m", cells=[(5, "CU", cell)]))
-    assert told[-1] == (
+    lines = only_error(mine(tmp_path / "m", cells=[(5, "CU", cell)]))
+    assert lines[-1] == (
         f"  try: {number} in that cell, if a letter stands for a digit; or"
         f' absent = ["-99", "{cell}"] in [model], if that stands for "not estimated"'
     )
@@ -93,19 +94,19 @@ def test_a_letter_in_a_number_is_told_as_the_digit(tmp_path, cell, number):
 
 @pytest.mark.parametrize("cell", ["OIL", "n.a.", "O", "0.3S"])
 def test_a_word_that_is_no_number_is_told_beside_the_marks_that_are_there(tmp_path, cell):
-    told = only_error(mine(tmp_path / "m", cells=[(5, "CU", cell)]))
-    assert told[-1].startswith(f'  try: absent = ["-99", "{cell}"] in [model], if that')
+    lines = only_error(mine(tmp_path / "m", cells=[(5, "CU", cell)]))
+    assert lines[-1].startswith(f'  try: absent = ["-99", "{cell}"] in [model], if that')
 
 
 @pytest.mark.parametrize("column, cell", [("CU", ""), ("AU", "-1")])
 def test_an_empty_cell_and_one_below_0_keep_the_marks_that_are_there(tmp_path, column, cell):
-    told = only_error(mine(tmp_path / "m", cells=[(5, column, cell)]))
-    assert told[-1].startswith(f'  try: absent = ["-99", "{cell}"] in [model], if ')
+    lines = only_error(mine(tmp_path / "m", cells=[(5, column, cell)]))
+    assert lines[-1].startswith(f'  try: absent = ["-99", "{cell}"] in [model], if ')
 
 
 def test_a_letter_in_a_density_is_told_as_the_digit_alone(tmp_path):
-    told = only_error(mine(tmp_path / "m", cells=[(2, "SG", "2.67O")]))
-    assert told[-1] == "  try: 2.670 in that cell, if a letter stands for a digit"
+    lines = only_error(mine(tmp_path / "m", cells=[(2, "SG", "2.67O")]))
+    assert lines[-1] == "  try: 2.670 in that cell, if a letter stands for a digit"
 
 
 @pytest.mark.parametrize(
@@ -163,15 +164,15 @@ def test_a_misspelt_key_comes_as_it_has_to_be(tmp_path, was, now, wanted):
 def test_a_misspelt_column_of_a_formula_comes_with_the_right_one(
     tmp_path, name, said_of_it, wanted
 ):
-    told = only_error(mine(tmp_path / "m", "1125 - ZC", f"1125 - {name}"))
-    assert f"there is no column {name!r}{said_of_it}" in told[0]
-    assert [line for line in told if "try:" in line] == ([f"  try: {wanted}"] if wanted else [])
+    lines = only_error(mine(tmp_path / "m", "1125 - ZC", f"1125 - {name}"))
+    assert f"there is no column {name!r}{said_of_it}" in lines[0]
+    assert [line for line in lines if "try:" in line] == ([f"  try: {wanted}"] if wanted else [])
 
 
 def test_a_misspelt_word_of_a_formula_comes_with_the_right_one(tmp_path):
     now = "mining_recovery = 0.97\nforbid = [\"ROCK == 'OXID'\"]"
-    told = only_error(mine(tmp_path / "m", "mining_recovery = 0.97", now))
-    assert told[-1] == "  try: 'OXI'"
+    lines = only_error(mine(tmp_path / "m", "mining_recovery = 0.97", now))
+    assert lines[-1] == "  try: 'OXI'"
 
 
 @pytest.mark.parametrize(
@@ -184,8 +185,8 @@ def test_a_misspelt_word_of_a_formula_comes_with_the_right_one(tmp_path):
     ],
 )
 def test_a_misspelt_region_comes_with_the_right_one(tmp_path, now, wanted):
-    told = only_error(mine(tmp_path / "m", "{ NORTH", "{ " + now))
-    assert [line for line in told if "try:" in line] == ([wanted] if wanted else [])
+    lines = only_error(mine(tmp_path / "m", "{ NORTH", "{ " + now))
+    assert [line for line in lines if "try:" in line] == ([wanted] if wanted else [])
 
 
 @pytest.mark.parametrize(
@@ -234,9 +235,9 @@ def test_a_table_a_folder_up_and_two_that_are_like_it_are_named_from_the_study(t
     ],
 )
 def test_the_line_is_that_of_the_key_that_is_to_be_changed(tmp_path, was, now, line, tried):
-    told = only_error(mine(tmp_path / "m", was, now))
-    assert told[1].startswith(f"  study.toml:{line}")
-    assert told[-1] == f"  try: {tried} in [model]"
+    lines = only_error(mine(tmp_path / "m", was, now))
+    assert lines[1].startswith(f"  study.toml:{line}")
+    assert lines[-1] == f"  try: {tried} in [model]"
 
 
 def test_check_counts_the_cells_that_are_not_estimated(tmp_path):
@@ -281,8 +282,8 @@ FACTORS = "factors = { from = 0.4, to = 1.2, step = 0.1 }"
     ],
 )
 def test_factors_in_another_unit_or_order_come_as_shares_that_ascend(tmp_path, now, wanted):
-    told = only_error(mine(tmp_path / "m", FACTORS, f"factors = {now}"))
-    assert told[-1] == f"  try: {wanted}"
+    lines = only_error(mine(tmp_path / "m", FACTORS, f"factors = {now}"))
+    assert lines[-1] == f"  try: {wanted}"
 
 
 @pytest.mark.parametrize(
@@ -305,12 +306,12 @@ def test_a_slope_in_another_unit_is_told_in_degrees(tmp_path, was, now, wanted):
 
 
 def test_a_column_that_isnt_there_is_told_beside_those_of_the_table_alone(tmp_path):
-    told = only_error(
+    lines = only_error(
         mine(tmp_path / "m", '{ name = "gold", grade = "AU"', '{ name = "gold", grade = "GRAM"')
     )
-    assert "there are BLOCKID, XC, YC, ZC, SG, CU, AU, ROCK, SECTOR" in " ".join(told)
+    assert "there are BLOCKID, XC, YC, ZC, SG, CU, AU, ROCK, SECTOR" in " ".join(lines)
 
 
 def test_the_column_that_has_all_regions_is_told_in_place_of_one_that_isnt_there(tmp_path):
-    told = only_error(mine(tmp_path / "m", 'by = "SECTOR"', 'by = "Domain"'))
-    assert told[-1] == '  try: by = "SECTOR" in [slopes]'
+    lines = only_error(mine(tmp_path / "m", 'by = "SECTOR"', 'by = "Domain"'))
+    assert lines[-1] == '  try: by = "SECTOR" in [slopes]'

@@ -1,4 +1,5 @@
-"""Pits of a series from one run of `pit shells --by-block`: against certificates, with planted mistakes, cut off, and by an older `pit`."""
+"""Pits of a series from one run of `pit shells --by-block`: against certificates, with planted
+mistakes, cut off, and by an older `pit`."""
 import hashlib
 import json
 import os
@@ -54,7 +55,9 @@ def test_stated_pits_are_those_of_the_certificates(tmp_path_factory, seed):
     assert stated.certified == 0
     assert certificates(study) == []
     for i, factor in enumerate(series):
-        found = study.program.best(study.files, factor, study.folder / "one.cert", keeps=False)
+        found = study.program.best(
+            study.files, factor, study.folder / "one.cert", keeps_certificate=False
+        )
         assert (found.mask == stated.holds(i)).all()
         assert (found.count, found.worth) == (
             stated.verdicts[i]["count"],
@@ -90,13 +93,13 @@ MISTAKES = {
 
 @pytest.mark.parametrize("what", MISTAKES)
 def test_what_contradicts_itself_is_never_kept(tmp_path, program, what):
-    change_table, change_lines, told = MISTAKES[what]
+    change_table, change_lines, found = MISTAKES[what]
     study = study_of(tmp_path, table(6, 5, 4, 3))
     (tmp_path / "pit").write_text(
         PLANTED.format(pit=program, folder=tmp_path, table=change_table, lines=change_lines)
     )
     (tmp_path / "pit").chmod(0o755)
-    with pytest.raises(pp.Disagreement, match=told):
+    with pytest.raises(pp.Disagreement, match=found):
         pp.Study(study.folder, Pit(tmp_path / "pit")).shells([600, 800])
     assert list((study.folder / "runs/base").iterdir()) == []
 
@@ -114,7 +117,8 @@ def test_files_that_arent_those_of_the_build_give_no_pit(tmp_path):
 
 
 def test_what_changes_between_two_readings_is_found(tmp_path, monkeypatch):
-    """Files that were digested once aren't read again, and one that was changed since is found, whatever its time of writing says."""
+    """Files that were digested once aren't read again, and one that was changed since is found,
+    whatever its time of writing says."""
     reads, read = [], digests.sha256
     monkeypatch.setattr(digests, "SETTLED", 0)
     monkeypatch.setattr(digests, "sha256", lambda path: reads.append(path.name) or read(path))
@@ -139,7 +143,8 @@ def test_what_changes_between_two_readings_is_found(tmp_path, monkeypatch):
 
 
 def test_a_pit_that_was_changed_after_it_was_added_up_is_added_up_again(tmp_path):
-    """The bits and their digest in the verdict are changed together; so is the worth, so that the verdict agrees with itself."""
+    """The bits and their digest in the verdict are changed together; so is the worth, so that the
+    verdict agrees with itself."""
     study = study_of(tmp_path, table(6, 5, 4, 3))
     study.shells(SERIES)
     place = study.place(800)
@@ -320,13 +325,13 @@ def test_a_killed_series_is_started_once_more_with_one_worker(tmp_path, program)
         f'#!/bin/sh\ncase "$*" in shells*--by-block*) echo "$*" >> {marks}; [ $(wc -l < {marks}) = 1 ] && kill -9 $$;; esac\nexec {program} "$@"\n'
     )
     (tmp_path / "pit").chmod(0o755)
-    told = []
+    shown = []
     found = pp.Study(study.folder, Pit(tmp_path / "pit")).shells(
-        [600, 1000], 2, lambda factor, what, share: told.append(what)
+        [600, 1000], 2, lambda factor, what, share: shown.append(what)
     )
     assert len(found) == 2
-    assert told.count("killed") == 1
-    assert told.count("done") == 2
+    assert shown.count("killed") == 1
+    assert shown.count("done") == 2
     assert ["--workers 2" in line for line in marks.read_text().splitlines()] == [True, False]
 
 
@@ -360,9 +365,10 @@ def test_a_half_made_series_of_another_machine_is_running(tmp_path):
 @pytest.mark.parametrize("piece", [1, 40, 300, 1 << 22])
 @pytest.mark.parametrize("end", ["\n", "\r\n"])
 def test_the_table_goes_back_the_same_by_any_pieces(tmp_path, monkeypatch, piece, end):
-    """Pieces of plain lines, and such with quotes, blank lines and line ends within cells between them, record by record by hand."""
+    """Pieces of plain lines, and such with quotes, blank lines and line ends within cells between
+    them, record by record by hand."""
     r = random.Random(piece)
-    monkeypatch.setattr(table_back, "PIECE", piece)
+    monkeypatch.setattr(table_back, "CHUNK_SIZE", piece)
     rows = [
         f"b{n},{n}"
         if r.random() < 0.9

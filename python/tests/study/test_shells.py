@@ -5,7 +5,7 @@ import pytest
 import pitplan as pp
 from mines import SIZE, costs, study_of, table
 from pitplan.plans import risk
-from pitplan.tasks.task import Tasks
+from pitplan.tasks.tasks import Tasks
 
 
 def test_benches_add_up_to_pits(two_metals):
@@ -51,7 +51,7 @@ def test_tables_of_blocks_name_rows_as_a_spreadsheet_counts_them(tmp_path):
     shells = study.shells([800, 1000])
     np.save(tmp_path / "sims.npy", np.zeros((1, len(lines) - 1), np.float32))
     risk.prepare(study, costs(), tmp_path / "sims.npy", [1000])
-    Tasks(study.folder).do(risk.tasks(study)[0])
+    Tasks(study.folder).do(risk.risk_tasks(study)[0])
     for found in (shells.of_blocks(), pp.Phases(shells).of_blocks(), risk.Risk(study).of_blocks()):
         own = found[found["row"] > 0]
         assert (

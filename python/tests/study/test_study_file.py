@@ -5,7 +5,6 @@ import pytest
 
 import pitplan as pp
 from mines import STUDY_TOML, written_study
-from pitplan.audit import recheck
 from pitplan.base.errors import PlanError
 from pitplan.study.shells import factors, series_of, thousandths
 from pitplan.study.study_file import read_study_file
@@ -119,12 +118,6 @@ def test_a_series_of_factors_ends_or_is_refused(low, high, step, what):
     else:
         with pytest.raises(PlanError, match=what):
             factors(low, high, step)
-
-
-@pytest.mark.parametrize("step", [0.0, -0.1, 1e-320, math.nan])
-def test_recheck_refuses_such_a_series_too(step):
-    with pytest.raises(recheck.Bad, match="is no series"):
-        recheck.series({"from": 0.3, "to": 1.2, "step": step})
 
 
 def test_factors():

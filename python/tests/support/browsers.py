@@ -38,7 +38,8 @@ def chromium(*words, size="1300,900"):
 
 
 def opened(browser, path):
-    """Opens a page and waits until it says that it is ready; gives the milliseconds that it took by its own clock."""
+    """Opens a page and waits until it says that it is ready; gives the milliseconds that it took by
+    its own clock."""
     browser.get(f"file://{path}")
     return ready(lambda: browser.execute_script("return document.documentElement.dataset.ready"))
 
@@ -53,7 +54,8 @@ def ready(ask):
 
 
 class Firefox:
-    """Firefox under a virtual screen, by its own protocol (Marionette), since Debian 12 has no geckodriver."""
+    """Firefox under a virtual screen, by its own protocol (Marionette), since Debian 12 has no
+    geckodriver."""
 
     def __init__(self, *more):
         self.folder = tempfile.mkdtemp()

@@ -1,5 +1,6 @@
 """Bundles of small studies, and what their script says of them, for the tests."""
 import hashlib
+import json
 import os
 import subprocess
 import sys
@@ -27,20 +28,21 @@ def bundled(folder, text=mines.STUDY_TOML, frame=None):
     return folder / "for the auditor"
 
 
-def with_schedule(folder, frame, text):
+def with_schedule(folder, frame, text, limits=(0.005, 600)):
     """The bundle of a study with a schedule, and that schedule."""
     mines.written_study(folder / "s", frame, text)
     plan = read_study_file(folder / "s")
     Study.create(folder / "s", plan.read_model(), plan.economics, plan.slopes, None, plan.digest)
     shells, terms = Study(folder / "s").shells(plan.factors), plan.values["schedule"]
-    found = Schedule.of(shells, terms, plan.rates, (0.005, 600))
+    found = Schedule.of(shells, terms, plan.rates, limits)
     dialect = plan.keys.dialect(plan.table)
     bundle.write_bundle(shells, folder / "bundle", plan.path, dialect, plan.rates, terms)
     return folder / "bundle", found
 
 
 def rechecked(folder, *words):
-    """The lines of recheck.py that aren't ok, and its exit status; a traceback is none of its answers."""
+    """The lines of recheck.py that aren't ok, and its exit status; a traceback is none of its
+    answers."""
     ran = subprocess.run(
         [sys.executable, "-I", str(folder / "recheck.py"), *words, os.environ["PIT"]],
         capture_output=True,
@@ -62,3 +64,18 @@ def summed(folder):
         for path in sorted(paths, key=lambda path: path.relative_to(folder).as_posix())
     ]
     (folder / bundle.SUMS).write_text("".join(lines))
+
+
+def resealed(folder):
+    """Makes all digests again, those of the model and of the table too."""
+    manifest, facts = (
+        json.loads((folder / name).read_text()) for name in ("model/manifest.json", "facts.json")
+    )
+    for name in ("mine.blocks", "settings.toml"):
+        digest = hashlib.sha256((folder / "model" / name).read_bytes()).hexdigest()
+        manifest["files"][name] = digest
+    table = hashlib.sha256((folder / facts["table"]).read_bytes()).hexdigest()
+    facts["sha256"] = manifest["source"]["sha256"] = table
+    (folder / "model" / "manifest.json").write_text(json.dumps(manifest))
+    (folder / "facts.json").write_text(json.dumps(facts))
+    summed(folder)

@@ -5,6 +5,7 @@ import pandas as pd
 from matplotlib.tri import LinearTriInterpolator, Triangulation
 
 from mines import STUDY_TOML
+from pitplan.plans import design
 
 HALVES = (
     pd.DataFrame(  # a whole block, one of two halves, and one of a half of rock below one of air
@@ -52,3 +53,7 @@ def face(*corner):
     document = ezdxf.new("R2010")
     document.modelspace().add_3dface([(0, 0, 0), (1, 0, 0), corner])
     return document
+
+
+def as_design(study, held):
+    return design.Design("d", held, np.zeros(len(held), bool))

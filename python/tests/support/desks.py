@@ -73,12 +73,12 @@ class Desk:
             env={**os.environ, "PITPLAN_DESK_TOKEN": TOKEN, **around},
             stderr=subprocess.DEVNULL,
         )
-        told = ""
-        while "Ctrl-C" not in told:
+        found = ""
+        while "Ctrl-C" not in found:
             line = self.process.stdout.readline()
-            assert line, f"the desk didn't start: {told}"
-            told += line
-        self.told = told
+            assert line, f"the desk didn't start: {found}"
+            found += line
+        self.greeting = found
 
     @property
     def door(self):
@@ -96,9 +96,9 @@ class Desk:
             body = json.dumps(body)
         client.request(method, path, body, headers)
         answer = client.getresponse()
-        told = json.loads(answer.read())
-        assert answer.status == 200, told
-        return told, time.monotonic() - began
+        reply = json.loads(answer.read())
+        assert answer.status == 200, reply
+        return reply, time.monotonic() - began
 
     def end(self):
         self.process.terminate()
@@ -164,10 +164,15 @@ class Hands:
         self.until(lambda: self.script(code, css, words), words)
 
     def types(self, ident, text):
-        """Types into a field and leaves it, and waits until it is written or refused, and what follows is drawn."""
+        """Types into a field and leaves it, and waits until it is written or refused, and what
+        follows is drawn."""
         self.fills(f'[id="{ident}"]', text)
+        self.waits(ident)
+
+    def waits(self, what="all"):
+        """Waits until what was typed, chosen or pressed is written or refused: the page shows it before."""
         code = "return (document.documentElement.dataset.pending ?? '0') === '0'"
-        self.until(lambda: self.script(code), f"{ident} written")
+        self.until(lambda: self.script(code), f"{what} written")
 
     def fills(self, css, text):
         self.there(css)
@@ -256,8 +261,8 @@ class Fox(Hands):
     def script(self, code, *words):
         for at in range(len(words)):
             code = code.replace("%s", f"arguments[{at}]", 1)
-        told = {"script": code, "args": list(words)}
-        return self.driver.call("WebDriver:ExecuteScript", told)["value"]
+        found = {"script": code, "args": list(words)}
+        return self.driver.call("WebDriver:ExecuteScript", found)["value"]
 
     def gives(self, css, path):
         self.there(css)

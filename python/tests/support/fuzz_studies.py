@@ -1,11 +1,13 @@
 #!/usr/bin/python3
-"""Throws damaged studies at pitplan: each is answered by a result or by one message, never by a traceback or a library's warning.
+"""Throws damaged studies at pitplan: each is answered by a result or by one message, never by a
+traceback or a library's warning.
 
     python3 python/tests/fuzz_studies.py [SAMPLES [SECONDS [SEED]]]
 
-A sample is a study.toml and a table that were sound, with one to four changes: keys, values and sections that are others,
-cells and lines that are gone, doubled or others, bytes that are no text. Each is read and priced, and the slopes of one of 100 are
-searched, in this process; `pit` isn't run. Prints how many were read and how many of each message came, and the first that is neither.
+A sample is a study.toml and a table that were sound, with one to four changes: keys, values and
+sections that are others, cells and lines that are gone, doubled or others, bytes that are no text.
+Each is read and priced, and the slopes of one of 100 are searched, in this process; `pit` isn't
+run. Prints how many were read and how many of each message came, and the first that is neither.
 """
 import itertools
 import multiprocessing
@@ -247,7 +249,8 @@ MESSAGE = re.compile(r"[^\n]+(\n  try: [^\n]+)?")
 
 
 def answer(folder, text, table, is_searched=True):
-    """What pitplan says of a study: "read", or the beginning of its message. Raises whatever is neither."""
+    """What pitplan says of a study: "read", or the beginning of its message. Raises whatever is
+    neither."""
     (folder / "study.toml").write_text(text, "utf-8", "surrogatepass")
     (folder / "t.csv").write_bytes(table)
     try:

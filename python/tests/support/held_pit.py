@@ -4,7 +4,7 @@ import threading
 
 import pitplan as pp
 from pitplan.plans import risk
-from pitplan.tasks.task import Tasks, wanted
+from pitplan.tasks.tasks import Tasks, wanted
 from processes import waited_for
 
 # pit, but a solve leaves a line of its process, and waits while a file is there, unless it is among as many as that file says

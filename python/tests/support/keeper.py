@@ -1,8 +1,10 @@
-"""A process that starts others for a test and ends all of them, with whatever those have started, when the test ends, however it ends.
+"""A process that starts others for a test and ends all of them, with whatever those have started,
+when the test ends, however it ends.
 
-Daemons that leave their parent come beneath it (PR_SET_CHILD_SUBREAPER), and its mounts are its own and end with it. Each line
-of its standard input is a command, [words, environment] in JSON, answered by a line: [status, output, errors]. Where its input ends,
-as it does when the test's process is killed too, it kills all that is beneath it, takes its folder away, and ends.
+Daemons that leave their parent come beneath it (PR_SET_CHILD_SUBREAPER), and its mounts are its own
+and end with it. Each line of its standard input is a command, [words, environment] in JSON,
+answered by a line: [status, output, errors]. Where its input ends, as it does when the test's
+process is killed too, it kills all that is beneath it, takes its folder away, and ends.
 """
 import ctypes
 import json

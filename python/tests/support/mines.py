@@ -58,7 +58,8 @@ WASTE = costs(
 
 
 def below(cliff, seed=1, shape=(16, 7, 12), low=3):
-    """Low ground with ore in it, and beside it a cliff of so many blocks; with its rows of air, which have no tonnes."""
+    """Low ground with ore in it, and beside it a cliff of so many blocks; with its rows of air,
+    which have no tonnes."""
     r = np.random.default_rng(seed)
     i, j, k = (v.ravel() for v in np.meshgrid(*map(np.arange, shape), indexing="ij"))
     is_rock = k < np.where(i >= 9, low + cliff, low)
@@ -91,17 +92,17 @@ def study_of(folder, frame, slopes=None, economics=None, **keys):
 
 
 def predecessors(folder):
-    """What each block rests on, ascending: the blocks at the offsets of its own region. Looked up plainly from the two texts that
-    `pit` reads, in a study's folder of the model."""
-    told = tomllib.loads((folder / "settings.toml").read_text())
-    assert told["up"] == "plus"
+    """What each block rests on, ascending: the blocks at the offsets of its own region. Looked up
+    plainly from the two texts that `pit` reads, in a study's folder of the model."""
+    settings = tomllib.loads((folder / "settings.toml").read_text())
+    assert settings["up"] == "plus"
     rows = [list(map(float, line.split())) for line in open(folder / "mine.blocks")]
     assert [row[0] for row in rows] == list(range(len(rows)))
     at = {tuple(row[1:4]): block for block, row in enumerate(rows)}
-    column = told.get("region")
+    column = settings.get("region")
     regions = [0 if column is None else int(row[4 + column]) for row in rows]
     near = (
-        {(row[1] + i, row[2] + j, row[3] + k) for i, j, k in told["slopes"][region]}
+        {(row[1] + i, row[2] + j, row[3] + k) for i, j, k in settings["slopes"][region]}
         for row, region in zip(rows, regions)
     )
     return [sorted(at[place] for place in places if place in at) for places in near]

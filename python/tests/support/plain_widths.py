@@ -8,8 +8,8 @@ from pitplan.plans.widths import STEPS
 
 
 def plain(plane, size):
-    """The width at each cell by a plain search: every circle around a centre, side or corner of a cell and every rectangle of
-    whole cells, as wide as fits, on a ladder of half blocks."""
+    """The width at each cell by a plain search: every circle around a centre, side or corner of a
+    cell and every rectangle of whole cells, as wide as fits, on a ladder of half blocks."""
     sx, sy = size
     (nx, ny), step, found = plane.shape, min(size) / STEPS, np.zeros(plane.shape)
     for (i, j), (m, n) in itertools.product(

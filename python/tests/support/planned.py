@@ -1,4 +1,5 @@
-"""Studies with a schedule, for tests: built and scheduled, and what the planner's own table says of them."""
+"""Studies with a schedule, for tests: built and scheduled, and what the planner's own table says of
+them."""
 import subprocess
 import sys
 from pathlib import Path
@@ -48,8 +49,8 @@ def scheduled(folder, limits=(0.0005, 600)):
 
 
 def of_table(folder, price=24000):
-    """The planner's own table with the year of each row, and what a row brings, uses and earns: whole dollars, worked
-    out of grades, prices and costs."""
+    """The planner's own table with the year of each row, and what a row brings, uses and earns:
+    whole dollars, worked out of grades, prices and costs."""
     rows = pd.read_csv(folder / "out" / "schedule_t.csv")
     metal = rows.TONNES * rows.CU / 100 * 0.85
     processing = rows.TONNES * rows.ROCK.map({"OXI": 7.5, "SUL": 9.0})

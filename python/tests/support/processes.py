@@ -1,4 +1,5 @@
-"""Processes that tests start and look at. What `command` starts ends with its test, and with pytest, however that ends."""
+"""Processes that tests start and look at. What `command` starts ends with its test, and with
+pytest, however that ends."""
 import os
 import shutil
 import signal
@@ -41,7 +42,8 @@ def end_started():
 
 
 def waited_for(path, lines, run=None, seconds=600):
-    """The words of a file, once it has so many lines; fails with the words of the process that writes it, where that ends before."""
+    """The words of a file, once it has so many lines; fails with the words of the process that
+    writes it, where that ends before."""
     for _ in range(seconds * 20):
         if path.exists() and path.read_text().count("\n") >= lines:
             return path.read_text().split()

@@ -5,7 +5,7 @@ import numpy as np
 
 from mines import costs, study_of, table
 from pitplan.plans import risk
-from pitplan.tasks.task import Tasks
+from pitplan.tasks.tasks import Tasks
 
 FACTORS = (800, 1000)
 
@@ -29,6 +29,6 @@ def prepared(folder, count=6, frame=None, economics=None, factors=FACTORS, **key
 
 def done(study):
     tasks = Tasks(study.folder, study.program)
-    for task in risk.tasks(study):
+    for task in risk.risk_tasks(study):
         tasks.do(task)
     return risk.Risk(study)

@@ -24,7 +24,7 @@ _server = {}  # of these tests: its process, and the path of its socket
 
 def ask(path, words, folder, environment, files):
     """Has the server run words, and gives the exit status."""
-    told = NONE.join(
+    found = NONE.join(
         map(
             os.fsencode,
             [
@@ -37,8 +37,8 @@ def ask(path, words, folder, environment, files):
     )
     with socket.socket(socket.AF_UNIX) as asked:
         asked.connect(path)
-        socket.send_fds(asked, [len(told).to_bytes(8, "little")], files)
-        asked.sendall(told)
+        socket.send_fds(asked, [len(found).to_bytes(8, "little")], files)
+        asked.sendall(found)
         said = asked.recv(1)
         return said[0] if said else 70
 
@@ -46,10 +46,10 @@ def ask(path, words, folder, environment, files):
 def answer(asked):
     """In a fork: takes over what is asked for, and runs it."""
     length, files, _, _ = socket.recv_fds(asked, 8, 3)
-    told = b""
-    while len(told) < int.from_bytes(length, "little"):
-        told += asked.recv(1 << 16)
-    count, *parts = map(os.fsdecode, told.split(NONE))
+    found = b""
+    while len(found) < int.from_bytes(length, "little"):
+        found += asked.recv(1 << 16)
+    count, *parts = map(os.fsdecode, found.split(NONE))
     for target, file in enumerate(files):
         os.dup2(file, target)
         os.close(file)
@@ -92,9 +92,9 @@ def serve(path):
     import matplotlib.pyplot  # noqa: F401
     from mines import SIZE
     from pitplan.slopes.offsets import wall
-    from pitplan.slopes.slopes import pattern_of
+    from pitplan.slopes.slopes import kept_search
 
-    pattern_of(wall(SIZE, 45), False, None)  # that of nearly all tests
+    kept_search(wall(SIZE, 45), False, None)  # that of nearly all tests
     with socket.socket(socket.AF_UNIX) as door:
         door.bind(path + ".part")
         door.listen(64)

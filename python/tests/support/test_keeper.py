@@ -1,4 +1,5 @@
-"""The keeper leaves nothing: neither daemons nor mounts nor its folder, also where the test's own process is killed."""
+"""The keeper leaves nothing: neither daemons nor mounts nor its folder, also where the test's own
+process is killed."""
 import os
 import signal
 import subprocess

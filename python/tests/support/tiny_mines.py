@@ -1,13 +1,29 @@
-"""Made-up mines of 8 to 60 blocks, with panels and pushbacks, so small that the best of all their schedules is known: every closed
-set of panels is listed, and each period goes from one to a larger one."""
+"""Made-up mines of 8 to 60 blocks, with panels and pushbacks, so small that the best of all their
+schedules is known: every closed set of panels is listed, and each period goes from one to a larger
+one."""
+from dataclasses import replace
+
 import numpy as np
 from pitplan.schedule.pairs import Pairs
+from pitplan.schedule.period_ranges import Freed, Span
 from pitplan.schedule.production import Production
+from pitplan.schedule.sorting import Sorting
 from pitplan.schedule.terms import Terms
 from pitplan.schedule.units import Units, gated
 
 WEIGHTS = (953_463, 866_784, 787_986, 716_351)
 MOST_SETS = 4000
+# seeds and kinds of some mines that differ
+MINES = (
+    (2, {"panel": 2}),
+    (3, {"panel": 2}),
+    (46, {"pushbacks": True}),
+    (32, {"panel": 2, "pushbacks": True, "lead": 1}),
+    (45, {"panel": 2}),
+    (1, {}),
+    (9, {}),
+)
+MOST_TRIED = 8  # units of which all periods are tried
 
 
 class TinyMine:
@@ -103,8 +119,8 @@ class TinyMine:
         )
 
     def waits(self):
-        """Of each panel those that it waits for, as bits: by the slopes, and a later pushback for all of the first down to
-        `lead` benches below."""
+        """Of each panel those that it waits for, as bits: by the slopes, and a later pushback for
+        all of the first down to `lead` benches below."""
         found = []
         for group in self.groups:
             asked = {self.unit[p] for b in group for p in self.above[b]}
@@ -160,3 +176,35 @@ class TinyMine:
                 np.maximum(after, np.where(goes, worth[i] + paid, -(1 << 60)), out=after)
             worth = after
         return int(worth.max())
+
+
+def made_of(seed, kind, sink=False):
+    """A tiny mine, with a sink rate of one bench where that is asked for: what lies straight above
+    comes a period before."""
+    mine = TinyMine(seed, **kind)
+    made = mine.production
+    if sink:
+        number = {place: b for b, place in enumerate(mine.places)}
+        pairs = [
+            (made.unit[b], made.unit[number[x, y, z + 1]])
+            for (x, y, z), b in number.items()
+            if (x, y, z + 1) in number
+        ]
+        low, high = np.array(pairs).T
+        made = replace(made, sinking=Pairs.of(low, high, made.units))
+    return made
+
+
+def begun(made):
+    """A first schedule, and the sorting of the mine."""
+    orders = Sorting(made)
+    return orders, orders.by_shells()
+
+
+def some_of(made, plan, seed, span):
+    """Some units of a window of so many periods, so few that all of their periods can be tried."""
+    random = np.random.default_rng(seed)
+    begin = int(random.integers(made.periods + 2 - span))
+    inside = np.flatnonzero((plan.period >= begin) & (plan.period < begin + span))
+    units = np.sort(random.permutation(inside)[:MOST_TRIED])
+    return Freed(units, Span(begin, begin + span - 1))

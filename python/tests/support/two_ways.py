@@ -1,5 +1,5 @@
-"""A small mine whose blocks go to a mill, to a leach or to waste, and what its table comes to: row by row in plain Python, with nothing of
-the package."""
+"""A small mine whose blocks go to a mill, to a leach or to waste, and what its table comes to: row
+by row in plain Python, with nothing of the package."""
 from collections import defaultdict
 from pathlib import Path
 
@@ -69,7 +69,8 @@ def metal_of(row, name):
 
 
 def amounts_of(row):
-    """What a row brings and what treating it costs by each process, and what digging it costs: in whole dollars."""
+    """What a row brings and what treating it costs by each process, and what digging it costs: in
+    whole dollars."""
     found = {}
     for name in NAMES:
         if name == "leach" and row["ROCK"] != "OXI":
@@ -88,7 +89,8 @@ def amounts_of(row):
 
 
 def goes(ways, factor):
-    """Where a block goes at a factor in thousandths, and what that is worth in thousandths of a dollar: the first of the greatest."""
+    """Where a block goes at a factor in thousandths, and what that is worth in thousandths of a
+    dollar: the first of the greatest."""
     best, place = 0, "waste"
     for name, (revenue, cost) in ways.items():
         worth = factor * revenue - 1000 * cost
@@ -98,7 +100,8 @@ def goes(ways, factor):
 
 
 def rows_at(table, factor=1000):
-    """The rows of a table, each with where it goes, what it is worth, and what its process gets of it."""
+    """The rows of a table, each with where it goes, what it is worth, and what its process gets of
+    it."""
     found = []
     for row in table.to_dict("records"):
         ways, digging = amounts_of(row)

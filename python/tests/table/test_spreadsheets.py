@@ -1,4 +1,4 @@
-"""Tables as they are written: numbers without what adding up has left behind their last digit."""
+"""Tables as they are written: numbers without what adding up has left after their last digit."""
 import math
 
 import numpy as np

@@ -9,7 +9,7 @@ from held_pit import all_done, in_background, twelve
 from mines import table
 from pitplan.tasks import local, status
 from pitplan.plans import risk
-from pitplan.tasks.task import Tasks
+from pitplan.tasks.tasks import Tasks
 from processes import TOP, command, gone, parent, runs, said
 from realisations import prepared
 
@@ -17,7 +17,7 @@ from realisations import prepared
 def test_a_killed_process_of_this_machine_is_started_again(tmp_path, held):
     study, pit = prepared(tmp_path, 6, table(7, 6, 4, 3), factors=(1000,)), held(first=1)
     run, deaths = in_background(
-        local.run_local, pp.Study(study.folder, pp.Pit(pit.path)), risk.tasks(study), 2
+        local.run_local, pp.Study(study.folder, pp.Pit(pit.path)), risk.risk_tasks(study), 2
     )
     killed = pit.solvers(3)[1]
     os.kill(parent(killed), signal.SIGKILL)
@@ -26,7 +26,7 @@ def test_a_killed_process_of_this_machine_is_started_again(tmp_path, held):
     assert deaths == [1]
     assert not runs(killed)
     assert len(pit.solvers()) == 6 + 1
-    assert not Tasks(study.folder).left(risk.tasks(study))
+    assert not Tasks(study.folder).left(risk.risk_tasks(study))
     assert not list(study.folder.glob("runs/*/.*"))
 
 
@@ -36,7 +36,7 @@ def test_a_task_whose_process_dies_each_time_is_told(tmp_path):
     deadly.write_text("#!/bin/sh\nkill -9 $PPID\n")
     deadly.chmod(0o755)
     with pytest.raises(pp.MachineError, match="its process was ended 3 times"):
-        local.run_local(pp.Study(study.folder, pp.Pit(deadly)), risk.tasks(study), 1)
+        local.run_local(pp.Study(study.folder, pp.Pit(deadly)), risk.risk_tasks(study), 1)
 
 
 @pytest.mark.parametrize("how", [signal.SIGINT, signal.SIGKILL])
@@ -117,14 +117,14 @@ def test_a_pit_without_memory_is_told_in_its_own_words(tmp_path, program):
     poor.write_text(f'#!/bin/sh\nulimit -v 5000\nexec {program} "$@"\n')  # enough for it to start
     poor.chmod(0o755)
     with pytest.raises(pp.MachineError) as error:
-        local.run_local(pp.Study(study.folder, pp.Pit(poor)), risk.tasks(study), 2)
+        local.run_local(pp.Study(study.folder, pp.Pit(poor)), risk.risk_tasks(study), 2)
     assert "realisation" in str(error.value)
     assert "pit solve ended with status 4: fault: memory" in str(error.value)
-    assert len(Tasks(study.folder).left(risk.tasks(study))) == 3
+    assert len(Tasks(study.folder).left(risk.risk_tasks(study))) == 3
     assert not list(study.folder.glob("runs/*/.*"))
     assert status.FAILED in {
-        state.state for state in status.states(study, risk.tasks(study))
+        state.state for state in status.states(study, risk.risk_tasks(study))
     }  # the other may have been stopped first
-    local.run_local(study, risk.tasks(study), 2)
-    assert {state.state for state in status.states(study, risk.tasks(study))} == {status.DONE}
+    local.run_local(study, risk.risk_tasks(study), 2)
+    assert {state.state for state in status.states(study, risk.risk_tasks(study))} == {status.DONE}
     assert not list((study.folder / "log").iterdir())

@@ -1,4 +1,5 @@
-"""docs/SCALE.md shows what bench/scale.py prints, and its text names no other figure; the simulated cluster, by cases that are worked out by hand."""
+"""docs/SCALE.md shows what bench/scale.py prints, and its text names no other figure; the simulated
+cluster, by cases that are worked out by hand."""
 import re
 import subprocess
 import sys
@@ -30,8 +31,11 @@ KNOWN = {
     **dict.fromkeys(("456", "456.9"), "blocks that a year's mill has room for"),
     **dict.fromkeys(("0.24", "0.11", "0.39"), "percent, of pits of a year alone"),
     "4,123": "blocks of one body",
+    **dict.fromkeys(("80.0", "93.9"), "million dollars of a first year, by bench/reach.py"),
     **dict.fromkeys(("0.196", "0.198", "0.475", "173", "2.773"), "of other runs"),
     **dict.fromkeys(("360", "3,600"), "processor seconds of two processors"),
+    **dict.fromkeys(("2.7", "2.3", "0.7", "250"), "processor seconds and MB of one richest pit"),
+    "2026": "a year",
 }
 
 
@@ -42,7 +46,7 @@ def test_the_page_shows_what_the_script_prints():
     text = PAGE.read_text()
     shown = [line[4:] for line in text.splitlines() if line.startswith("    ")]
     assert shown == [line for line in printed.splitlines() if line]
-    told = {
+    found = {
         number.rstrip(",")
         for line in text.splitlines()
         if not line.startswith("    ")
@@ -52,7 +56,7 @@ def test_the_page_shows_what_the_script_prints():
     }
     strange = sorted(
         number
-        for number in told
+        for number in found
         if len(number.rstrip(".")) > 2
         and number.rstrip(".") not in printed
         and number.rstrip(".") not in KNOWN

@@ -6,10 +6,10 @@ import pytest
 
 from held_pit import twelve
 from mines import table, written_study
-from pitplan.tasks import engines, status
+from pitplan.tasks import clusters, status
 from pitplan.plans import risk
 from pitplan.plans.task_line import Task
-from pitplan.tasks.task import Tasks, done_line
+from pitplan.tasks.tasks import Tasks, done_line
 from processes import command, said
 from realisations import prepared
 
@@ -32,7 +32,8 @@ def test_a_slurm_that_cant_be_asked(tmp_path, program):
 
 
 def test_what_another_machine_left_half_done(tmp_path, asked_for):
-    """A process of another machine can't be looked for: its task runs, as far as is known, unless Slurm has it no more."""
+    """A process of another machine can't be looked for: its task runs, as far as is known, unless
+    Slurm has it no more."""
     study, task, log = (
         twelve(asked_for, tmp_path),
         Task("realisation", "3", (1000,)),
@@ -41,12 +42,12 @@ def test_what_another_machine_left_half_done(tmp_path, asked_for):
     (study.folder / "runs/r0003/.f01000.node7.1.xyz").mkdir(parents=True)
     state = lambda handed: status.states(study, [task], handed)[0]  # noqa: E731
     assert (state({}).state, state({}).words) == (status.RUNNING, "on node7")
-    assert state({task: engines.Handed("RUNNING", log)}).state == status.RUNNING
-    assert state({task: engines.Handed("PENDING", log)}).state == status.WAITING
+    assert state({task: clusters.Handed("RUNNING", log)}).state == status.RUNNING
+    assert state({task: clusters.Handed("PENDING", log)}).state == status.WAITING
     log.write_text(
         "realisation 3\nslurmstepd: error: *** JOB 7 CANCELLED DUE TO TIME LIMIT ***\n\n"
     )
-    found = state({task: engines.Handed("", log)})
+    found = state({task: clusters.Handed("", log)})
     assert found.state == status.FAILED
     assert (
         found.words
@@ -56,18 +57,18 @@ def test_what_another_machine_left_half_done(tmp_path, asked_for):
         "slurmstepd: error: *** JOB 7 ON node7 CANCELLED AT 2026-11-26T17:00:00 ***\nstopped; what is done is kept, and the same command goes on from there\n"
     )
     assert (
-        state({task: engines.Handed("", log)}).words
+        state({task: clusters.Handed("", log)}).words
         == "was ended from outside; its log ends with: slurmstepd: error: *** JOB 7 ON node7 CANCELLED AT 2026-11-26T17:00:00 ***"
     )
     log.write_text("stopped; what is done is kept, and the same command goes on from there\n")
     assert (
-        state({task: engines.Handed("", log)}).words
+        state({task: clusters.Handed("", log)}).words
         == "was ended from outside: killed, out of memory, or out of time"
     )
     tidy = Task("realisation", "4", (1000,))  # one that has taken away what it had half done
     assert [
         (found.state, found.words)
-        for found in status.states(study, [tidy], {tidy: engines.Handed("", log)})
+        for found in status.states(study, [tidy], {tidy: clusters.Handed("", log)})
     ] == [(status.FAILED, "was ended from outside: killed, out of memory, or out of time")]
     run = command("submit", study.folder, "--dry")
     shown, look = run.communicate(timeout=600)
@@ -79,13 +80,14 @@ def test_what_another_machine_left_half_done(tmp_path, asked_for):
 
 
 def test_a_log_without_a_word_and_one_of_a_model_that_was(tmp_path, asked_for):
-    """A task that was killed before it said anything did begin, and one that was done over another model didn't fail."""
+    """A task that was killed before it said anything did begin, and one that was done over another
+    model didn't fail."""
     study, task, log = (
         twelve(asked_for, tmp_path),
         Task("realisation", "3", (1000,)),
         tmp_path / "log",
     )
-    state = lambda: status.states(study, [task], {task: engines.Handed("", log)})[0]  # noqa: E731
+    state = lambda: status.states(study, [task], {task: clusters.Handed("", log)})[0]  # noqa: E731
     assert state().state == status.TO_DO  # cancelled while it waited
     log.write_text("")
     assert (state().state, state().words) == (
@@ -103,23 +105,24 @@ def test_a_log_without_a_word_and_one_of_a_model_that_was(tmp_path, asked_for):
 
 
 def test_the_rest_is_reckoned_with_pricing(tmp_path, monkeypatch):
-    """A realisation is priced and written before its first pit, and on a mine of few blocks or few factors that takes longest."""
+    """A realisation is priced and written before its first pit, and on a mine of few blocks or few
+    factors that takes longest."""
     study = prepared(tmp_path, 3, table(6, 5, 4, 3))
     write = risk.write_blocks
     monkeypatch.setattr(risk, "write_blocks", lambda *words: time.sleep(1) or write(*words))
-    one, *others = risk.tasks(study)
+    one, *others = risk.risk_tasks(study)
     Tasks(study.folder).do(one)
     first, second = (
         risk.realisation(study, 0).verdict(factor)["seconds"] for factor in one.factors
     )
     assert second < 1 <= first
-    found = status.states(study, risk.tasks(study), {})
+    found = status.states(study, risk.risk_tasks(study), {})
     assert sum(state.missing for state in found) == 4
     assert status.seconds_left(study, found) == pytest.approx(2 * (first + second))
     written = risk.realisation(study, 1)
     with written.written():
         pass
-    assert written.began is None  # what was written and not used counts with no pit
+    assert written.preparation_seconds == 0  # what was written and not used counts with no pit
 
 
 def test_risk_says_what_slurm_has_in_hand(tmp_path, asked_for, program):

@@ -17,7 +17,7 @@ import pitplan as pp
 from browsers import Firefox, chromium, opened, ready
 from mines import costs, shells_of, study_of, table as mine, written_study
 from pitplan.plans import compare, design
-from pitplan.views import levels, page, page_views
+from pitplan.views import page, page_views
 from pitplan.cli.pictures import page as page_command
 from pitplan.plans.phases import Phases
 from pitplan.plans.risk import Realisation
@@ -47,7 +47,8 @@ def phases(shells):
 
 @pytest.fixture(scope="module")
 def compared(shells):
-    """A design with walls that stand upright: it digs beyond the best pit, leaves some of it, and breaks the slopes."""
+    """A design with walls that stand upright: it digs beyond the best pit, leaves some of it, and
+    breaks the slopes."""
     b = shells.study.model.blocks
     held = (b.ix.between(3, 8) & b.iy.between(1, 5) & (b.iz >= 1)).to_numpy()
     return compare.compare(
@@ -137,15 +138,15 @@ def number(text):
 UNITS = {"kt": 1e3, "Mt": 1e6, "million $": 1e6, "thousand $": 1e3}
 
 
-def amount(told, name):
+def amount(words, name):
     """What is told of a fact, in its unit, and how exactly."""
-    full = next(n for n in told if n.partition(" (")[0] == name)
+    full = next(n for n in words if n.partition(" (")[0] == name)
     unit = UNITS.get(full.rpartition("(")[2][:-1], 1)
-    return number(told[full]) * unit, 0.00501 * unit if unit > 1 else 0.501
+    return number(words[full]) * unit, 0.00501 * unit if unit > 1 else 0.501
 
 
-def has(told, name, value):
-    shown, within = amount(told, name)
+def has(words, name, value):
+    shown, within = amount(words, name)
     return abs(shown - value) <= within
 
 
@@ -187,20 +188,20 @@ def test_facts_are_those_of_the_table_and_of_pit(pits_view, shells, table):
     slider(pits_view).send_keys(Keys.HOME)
     for i, row in enumerate(table.to_dict("records")):
         slider(pits_view).send_keys(Keys.ARROW_RIGHT)
-        told = facts(pits_view)
+        shown = facts(pits_view)
         assert (
-            number(told["Blocks"])
+            number(shown["Blocks"])
             == row["blocks"]
             == shells.verdicts[i]["count"]
             == np.count_nonzero(shells.shell <= i)
         )
-        worth = told["Worth at its own factor, proved ($)"].replace(",", "")
+        worth = shown["Worth at its own factor, proved ($)"].replace(",", "")
         assert Decimal(worth) == Decimal(str(shells.verdicts[i]["worth"]))
         assert len(worth.partition(".")[2]) == max(
             len(str(verdict["worth"]).partition(".")[2]) for verdict in shells.verdicts
         )
         at = shells.study.model.blocks["iz"][shells.shell <= i]
-        assert number(told["Toe of the lowest bench (m)"]) == 100 - 15 / 2 + 15 * at.min()
+        assert number(shown["Toe of the lowest bench (m)"]) == 100 - 15 / 2 + 15 * at.min()
         for name, column in (
             ("Ore", "ore_t"),
             ("Waste", "waste_t"),
@@ -208,10 +209,10 @@ def test_facts_are_those_of_the_table_and_of_pit(pits_view, shells, table):
             ("Discounted, best case", "npv_best"),
             ("Discounted, worst case", "npv_worst"),
         ):
-            assert has(told, name, row[column]), (name, told, row[column])
-        assert abs(number(told["Strip ratio (t/t)"]) - row["strip"]) < 0.00501
-        assert abs(number(told["Years"]) - row["years"]) < 0.0501
-        assert rows_of(pits_view)[i][1:] == list(told.values())
+            assert has(shown, name, row[column]), (name, shown, row[column])
+        assert abs(number(shown["Strip ratio (t/t)"]) - row["strip"]) < 0.00501
+        assert abs(number(shown["Years"]) - row["years"]) < 0.0501
+        assert rows_of(pits_view)[i][1:] == list(shown.values())
         assert text_of(pits_view, "step") == rows_of(pits_view)[i][0]
         assert len(pits_view.find_elements(By.CSS_SELECTOR, "tr[aria-current]")) == 1
 
@@ -223,26 +224,26 @@ def test_facts_of_a_pushback_are_its_own(phases_view, phases):
     slider(phases_view).send_keys(Keys.HOME)
     for row in found.to_dict("records"):
         slider(phases_view).send_keys(Keys.ARROW_RIGHT)
-        told = facts(phases_view)
+        shown = facts(phases_view)
         assert (
-            number(told["Blocks"])
+            number(shown["Blocks"])
             == row["blocks"]
             == np.count_nonzero(phases.pushback == row["pushback"])
         )
-        assert number(told["Factor of its pit"]) == row["factor"]
-        assert number(told["Thinnest (m)"]) == row["width"]
-        assert (number(told["From (m)"]), number(told["Down to (m)"])) == (
+        assert number(shown["Factor of its pit"]) == row["factor"]
+        assert number(shown["Thinnest (m)"]) == row["width"]
+        assert (number(shown["From (m)"]), number(shown["Down to (m)"])) == (
             row["top"],
             row["bottom"],
         )
         assert all(
-            has(told, name, row[column])
+            has(shown, name, row[column])
             for name, column in (
                 ("Ore", "ore_t"),
                 ("Waste", "waste_t"),
                 ("Worth at factor 1", "worth"),
             )
-        ), told
+        ), shown
 
 
 def test_facts_of_a_design_and_of_the_best_pit(design_view, shells, compared):
@@ -254,11 +255,11 @@ def test_facts_of_a_design_and_of_the_best_pit(design_view, shells, compared):
         ("upright", compared.design.held, study.priced.worth_of(compared.design.held, 1000)),
         ("best pit", study.mask(1000), study.verdict(1000)["worth"]),
     ):
-        told = dict(zip(facts(design_view), rows[name]))
-        assert number(told["Blocks"]) == mask.sum()
-        assert told["Worth at factor 1.00, exact ($)"].replace(",", "") == worth
-        assert has(told, "Ore", b.tonnes[mask & milled].sum())
-        assert has(told, "Waste", b.tonnes[mask & ~milled].sum())
+        shown = dict(zip(facts(design_view), rows[name]))
+        assert number(shown["Blocks"]) == mask.sum()
+        assert shown["Worth at factor 1.00, exact ($)"].replace(",", "") == worth
+        assert has(shown, "Ore", b.tonnes[mask & milled].sum())
+        assert has(shown, "Waste", b.tonnes[mask & ~milled].sum())
     said = text_of(design_view, "said")
     assert f"pit value says of the design: {compared.said}" in said
     assert "breaks the slopes" in said
@@ -362,7 +363,8 @@ def key_of(browser):
 
 
 def cut(browser, way, at):
-    """Cuts as the keys of `test_a_cut_goes_by_keys` do: y along the model's x axis, x along its y axis, z a plan."""
+    """Cuts as the keys of `test_a_cut_goes_by_keys` do: y along the model's x axis, x along its y
+    axis, z a plan."""
     browser.execute_script(
         """const [way, at] = arguments, box = document.getElementById("way"), slide = document.getElementById("cut");
         if (box.value !== way) { box.value = way; box.onchange(); }
@@ -379,7 +381,8 @@ LEFT, TOP, INNER = 98, 10, (-0.28, -0.17, -0.06, 0.06, 0.17, 0.28)
 
 
 def layout(browser, model, way):
-    """Where a place (index along x, y and z, whole at a block's centre) is drawn in a cut, in points of the screen."""
+    """Where a place (index along x, y and z, whole at a block's centre) is drawn in a cut, in
+    points of the screen."""
     grid, (room, tall) = model.grid, browser.execute_script(
         "return [document.getElementById('section').clientWidth - 34, Math.max(360, Math.round(innerHeight * 0.8))]"
     )
@@ -452,8 +455,9 @@ def test_sections_and_plans_show_what_each_block_is(all_views, shells, phases, c
 
 
 def test_a_cut_fills_its_canvas_at_every_width(all_views):
-    """The canvas ends where the picture does: 10 points beside a section, 44 beside a plan with its arrow to the north; and the picture
-    is as wide as the page, or as high as four fifths of the window."""
+    """The canvas ends where the picture does: 10 points beside a section, 44 beside a plan with its
+    arrow to the north; and the picture is as wide as the page, or as high as four fifths of the
+    window."""
     chosen(all_views, PITS)
     try:
         for width, height in ((1280, 900), (1920, 1080), (700, 1000)):
@@ -473,19 +477,20 @@ def test_a_cut_fills_its_canvas_at_every_width(all_views):
 
 
 def test_colours_are_spaced_by_tonnes(pits_view, shells, table, phases):
-    """From shade to shade it is as far as from middle to middle of the tonnes of two pits, but for a quarter that is shared out evenly."""
+    """From shade to shade it is as far as from middle to middle of the tonnes of two pits, but for
+    a quarter that is shared out evenly."""
     rock = table["rock_t"].tolist()
     of_phase = phases.table()["rock_t"].tolist()
     for view, adds in (
         (0, [rock[0], *(b - a for a, b in zip(rock, rock[1:]))]),
         (1, of_phase),
     ):
-        told = pits_view.execute_script("return D.views[arguments[0]].tones", view)
+        found = pits_view.execute_script("return D.views[arguments[0]].tones", view)
         apart = [(a + b) / 2 for a, b in zip(adds, adds[1:])]
         wanted = [0.0]
         for gap in apart:
             wanted.append(wanted[-1] + 0.25 / len(apart) + 0.75 * gap / sum(apart))
-        assert np.allclose(told, wanted), (told, wanted)
+        assert np.allclose(found, wanted), (found, wanted)
     shades = pits_view.execute_script(
         "return V.steps.map((_, k) => colourOf(k + 1)).map((c, k) => ramp(V.tones[k]).every((part, n) => part === c[n]))"
     )
@@ -498,12 +503,13 @@ def test_colours_of_three_pushbacks_go_by_their_tonnes(shells):
     rock = [shells.study.model.blocks.TONNES[found.pushback == k].sum() for k in (1, 2, 3)]
     assert len(set(rock)) == 3
     first, last = (rock[0] + rock[1]) / 2, (rock[1] + rock[2]) / 2
-    told = page.of_view(page_views.phases(found))["tones"]
-    assert told == pytest.approx([0.0, 0.125 + 0.75 * first / (first + last), 1.0])
+    shown = page.of_view(page_views.phases(found))["tones"]
+    assert shown == pytest.approx([0.0, 0.125 + 0.75 * first / (first + last), 1.0])
 
 
 def test_benches_have_ticks_and_round_labels(pits_view):
-    """Of benches every first, second, fifth or tenth has its elevation: by hand for a floor of 92.5 and benches of 15."""
+    """Of benches every first, second, fifth or tenth has its elevation: by hand for a floor of 92.5
+    and benches of 15."""
     for room, toes in (
         (10, [92.5, 107.5, 122.5, 137.5, 152.5, 167.5]),
         (25, [92.5, 122.5, 152.5]),
@@ -569,16 +575,17 @@ def test_a_block_is_told_by_keys(pits_view, shells, phases, compared):
     for step, key in (((0, 0), None), ((1, 0), Keys.ARROW_RIGHT), ((1, -1), Keys.ARROW_DOWN)):
         profile.send_keys(key) if key else None
         ix, iy = np.add(middle, step)
-        told = text_of(pits_view, "there")
+        shown = text_of(pits_view, "there")
         block = model.blocks[
             (model.blocks.ix == ix) & (model.blocks.iy == iy) & (model.blocks.iz == 2)
         ]
-        assert told.startswith(f"{5000 + 20 * ix:,} E, {9000 + 20 * iy:,} N, 130 m. ")
-        assert told.endswith("no rock" if block.empty else kinds[block.index[0]]), (told, ix, iy)
+        assert shown.startswith(f"{5000 + 20 * ix:,} E, {9000 + 20 * iy:,} N, 130 m. ")
+        assert shown.endswith("no rock" if block.empty else kinds[block.index[0]]), (shown, ix, iy)
 
 
 def test_black_and_white_tells_kinds_apart(all_views, shells, phases, compared):
-    """Patterns differ from kind to kind, on the colours and in the key; of many kinds the colours go from dark to light."""
+    """Patterns differ from kind to kind, on the colours and in the key; of many kinds the colours
+    go from dark to light."""
     model = shells.study.model
     for view, plain in ((PHASES, "1"), (DESIGN, "in both")):
         chosen(all_views, view)
@@ -661,20 +668,6 @@ def test_the_design_is_dashed_and_the_best_pit_is_a_full_line(
     assert all(0.3 < share < 0.9 for share in shares["beyond the best pit"]), shares
     assert shares["left by the design"], shares
     assert min(shares["left by the design"]) > 0.95, shares
-
-
-def test_air_within_rock_is_no_overhang(tmp_path):
-    """Air weighs nothing and is in no pushback; a pushback that leads through it has all rock above it."""
-    frame = mine(9, 8, 5, 5)
-    shells = study_of(tmp_path, frame[(frame.ZC != 130) | (frame.XC < 5050)], missing="air").shells(
-        [600, 1000]
-    )
-    found, b = Phases(shells), shells.study.model.blocks
-    levels = page_views.phases(found).levels
-    dug = b[found.pushback > 0]
-    lowest = dug.groupby(["ix", "iy"]).iz.min()
-    assert (shells.holds(1) & (b.tonnes == 0)).any()
-    assert all(levels[-1][at] == low for at, low in lowest.items())
 
 
 # A mine with blocks that may not be dug, whose corners and benches need one and two decimals, and its easting alone of both.
@@ -854,10 +847,10 @@ def test_pits_by_likelihood(likelihood_view, risk):
     slider(browser).send_keys(Keys.HOME)
     for tenth in tenths:
         slider(browser).send_keys(Keys.ARROW_RIGHT)
-        mask, told = 10 * hits >= tenth * risk.count, facts(browser)
+        mask, shown = 10 * hits >= tenth * risk.count, facts(browser)
         assert text_of(browser, "step") == f"{10 * tenth}%"
-        assert number(told["Blocks"]) == mask.sum()
-        assert has(told, "Rock", model.blocks.tonnes[mask].sum())
+        assert number(shown["Blocks"]) == mask.sum()
+        assert has(shown, "Rock", model.blocks.tonnes[mask].sum())
         assert browser.execute_script(DUG, 10 - tenth) == mask.sum()
         worths = [float(p.worth_of(mask, 1000)) for p in priced]
         for name, value in (
@@ -865,7 +858,7 @@ def test_pits_by_likelihood(likelihood_view, risk):
             ("Worth, mean", np.mean(worths)),
             ("Worth, most", max(worths)),
         ):
-            assert has(told, name, value), (name, told, value)
+            assert has(shown, name, value), (name, shown, value)
     light = [luminance("#%02x%02x%02x" % tuple(colour[:3])) for colour in swatches(browser)]
     assert (np.diff(light) > 0.01).all()  # the likeliest is darkest
     assert len(light) == 9
@@ -1128,17 +1121,6 @@ def test_a_surface_with_an_overhang_is_refused(shells, compared):
         match=f"the design holes has block {b['id'][low]} without all that is above it",
     ):
         page_views.design(shells.study, broken)
-
-
-def test_rows_of_air_are_no_ground(shells):
-    model = copy.copy(shells.study.model)
-    model.blocks = model.blocks.copy()
-    top = model.grid.shape[2] - 1
-    model.blocks.loc[model.blocks["iz"] == top, "tonnes"] = 0.0
-    found = levels.surfaces(SimpleNamespace(model=model), [("the pit", shells.holds(3))])
-    there = found[0] != levels.NO_COLUMN
-    assert found[0][there].max() == top
-    assert (found[1][there] <= found[0][there]).all()
 
 
 def test_three_js_that_isnt_there_is_told(shells, tmp_path, monkeypatch):

@@ -1,11 +1,9 @@
-"""Pictures: where each block is drawn, which colour it gets, what the axes say; without looking at pixels."""
+"""Pictures: where each block is drawn, which colour it gets, what the axes say; without looking at
+pixels."""
 import copy
-from types import SimpleNamespace
-from pathlib import Path
 
 import matplotlib.image
 import numpy as np
-import pandas as pd
 import pytest
 from hypothesis import given, strategies as st
 from matplotlib import colormaps
@@ -13,13 +11,12 @@ from shapely.geometry import Polygon
 from shapely.ops import unary_union
 
 import pitplan as pp
-from mines import costs, shells_of, study_of, table, written_study
+from mines import costs, shells_of, study_of, table
 from pitplan.views import pictures, plane
 from pitplan.model.grid import Grid
 from pitplan.model.model import Model
 from pitplan.views.pictures import Style
-from pitplan.views.tones import tones
-from served import pitplan
+from pitplan.views.pit_colours import tones
 
 
 @pytest.fixture(scope="module")
@@ -37,66 +34,6 @@ def turned(tmp_path_factory, shells):
     model.grid = Grid(g.origin, g.size, g.shape, 30.0)
     found.study.__dict__["model"] = model
     return found
-
-
-@st.composite
-def models(draw):
-    shape = tuple(draw(st.integers(1, 5)) for _ in range(3))
-    size = tuple(draw(st.sampled_from([5.0, 10.0, 12.5])) for _ in range(3))
-    frame = table(*shape, draw(st.integers(0, 99)), size=size)
-    step = [
-        np.rint((frame[c] - o) / s).astype(int)
-        for c, o, s in (("XC", 5000, size[0]), ("YC", 9000, size[1]), ("ZC", 100, size[2]))
-    ]
-    blocks = frame.assign(
-        ix=step[0], iy=step[1], iz=step[2], row=range(len(frame)), tonnes=frame.TONNES
-    )
-    return Model(
-        blocks,
-        Grid(
-            (5000.0, 9000.0, 100.0), size, shape, draw(st.sampled_from([0.0, 30.0, -72.5, 190.0]))
-        ),
-        "mine",
-    )
-
-
-def centres(cut):
-    """The middle of each cell, as the mean of its corners."""
-    return [(c[:-1, :-1] + c[1:, :-1] + c[:-1, 1:] + c[1:, 1:]) / 4 for c in (cut.across, cut.up)]
-
-
-@given(models())
-def test_each_block_is_drawn_where_it_is(model):
-    east, north, up = model.xyz()
-    seen = []
-    for level in range(model.grid.shape[2]):
-        cut = plane.bench(model, level)
-        there = cut.number >= 0
-        x, y = centres(cut)
-        assert np.allclose(x[there], east[cut.number[there]])
-        assert np.allclose(y[there], north[cut.number[there]])
-        seen += cut.number[there].tolist()
-    assert sorted(seen) == list(range(len(model)))
-
-
-@given(models())
-def test_sections_have_every_block_at_its_distance_and_elevation(model):
-    east, north, up = model.xyz()
-    for axis, count in (("y", model.grid.shape[1]), ("x", model.grid.shape[0])):
-        seen = []
-        for index in range(count):
-            cut = plane.section(model, axis, index)
-            there = cut.number >= 0
-            x, y = centres(cut)
-            blocks = cut.number[there]
-            assert np.allclose(y[there], up[blocks])
-            if model.grid.rotation == 0:
-                assert np.allclose(x[there], (east if axis == "y" else north)[blocks])
-            elif len(blocks):  # a distance along the section: that between places
-                gone = np.hypot(east[blocks] - east[blocks[0]], north[blocks] - north[blocks[0]])
-                assert np.allclose(np.abs(x[there] - x[there][0]), gone)
-            seen += blocks.tolist()
-        assert sorted(seen) == list(range(len(model)))
 
 
 @given(st.integers(0, 10**6), st.sampled_from([0.0, 40.0]))
@@ -230,15 +167,16 @@ def test_the_row_of_a_section_has_most_of_the_pit_and_isnt_the_models_last(shell
     assert pictures.middle_of(here)[1] == 2
 
 
-@pytest.mark.parametrize("nx, told", [(5, 1), (6, 1), (7, 2), (25, 7), (400, 20)])
-def test_a_flat_section_is_drawn_higher_and_says_so(tmp_path, nx, told):
-    """Blocks of 20 x 20 x 15: a section of one level and six columns is 120 by 15, an eighth; a fifth is aimed at."""
+@pytest.mark.parametrize("nx, words", [(5, 1), (6, 1), (7, 2), (25, 7), (400, 20)])
+def test_a_flat_section_is_drawn_higher_and_says_so(tmp_path, nx, words):
+    """Blocks of 20 x 20 x 15: a section of one level and six columns is 120 by 15, an eighth; a
+    fifth is aimed at."""
     frame = table(nx, 3, 1, 1)
     figure = pictures.section(
         study_of(tmp_path, frame, economics=costs(mining=0.01)).shells([1000]), row=1
     )
-    assert figure.axes[0].get_aspect() == told
-    assert title(figure).endswith(f"\nvertical exaggeration {told}") == (told > 1)
+    assert figure.axes[0].get_aspect() == words
+    assert title(figure).endswith(f"\nvertical exaggeration {words}") == (words > 1)
 
 
 def test_what_may_not_be_dug_has_a_pattern_of_its_own(tmp_path):
@@ -276,7 +214,8 @@ def test_a_grade_is_drawn_with_its_unit(shells):
 
 
 def test_colours_of_pits_are_spaced_by_tonnes(shells):
-    """By hand: from the middle of 10 of 100 tonnes to the next it is 10, then 35, then 40, of 85 in all."""
+    """By hand: from the middle of 10 of 100 tonnes to the next it is 10, then 35, then 40, of 85 in
+    all."""
     found = tones([10, 10, 60, 20])
     assert np.allclose(
         np.diff(found), [1 / 12 + 0.75 * 10 / 85, 1 / 12 + 0.75 * 35 / 85, 1 / 12 + 0.75 * 40 / 85]
@@ -293,7 +232,7 @@ def test_colours_of_pits_are_spaced_by_tonnes(shells):
 
 
 @pytest.mark.parametrize(
-    "low, high, count, most, told",
+    "low, high, count, most, words",
     [
         (3702, 6, 28, 8, [3720 + 30 * k for k in range(6)]),  # 29 toes and crests, every fifth
         (3702, 6, 28, 12, [3720 + 30 * k for k in range(6)]),  # every second would be 15
@@ -302,14 +241,14 @@ def test_colours_of_pits_are_spaced_by_tonnes(shells):
         (92.5, 15, 5, 2, [92.5, 167.5]),
     ],
 )
-def test_labels_of_benches_are_every_first_second_fifth_or_tenth(low, high, count, most, told):
+def test_labels_of_benches_are_every_first_second_fifth_or_tenth(low, high, count, most, words):
     toes = low + high * np.arange(count + 1.0)
     found = pictures.bench_ticks(toes, most)
     step = np.diff(found)
     assert len(found) <= most
     assert set(found) <= set(toes)
     assert len(step) == 0 or (step == step[0]).all() and step[0] / high in (1, 2, 5, 10)
-    assert found.tolist() == told
+    assert found.tolist() == words
 
 
 def test_each_bench_of_a_section_has_a_tick(shells):
@@ -350,39 +289,6 @@ def test_a_column_that_isnt_there_names_the_nearest(shells):
         pictures.plan(shells, 100, Style("SECTR"))
     with pytest.raises(pp.PlanError, match="no pit at factor 0.7\n.*0.60, 0.80"):
         pictures.plan(shells, 100, Style(pit=0.7))
-
-
-def luminance(colours):
-    return np.asarray(colours)[:, :3] @ [0.2126, 0.7152, 0.0722]
-
-
-@pytest.mark.parametrize("count", [1, 2, 9, 64, 200])
-def test_colours_go_from_dark_to_light(count):
-    """Also where nearly all tonnes come with one pit."""
-
-    class Series:
-        factors = list(range(count))
-        shell = np.arange(count + 1)
-        study = SimpleNamespace(
-            model=SimpleNamespace(
-                blocks=pd.DataFrame({"tonnes": np.where(shell == count // 2, 1e6, 1.0)})
-            )
-        )
-
-    colours = pictures.paint_shells(Series()).colours(np.arange(count))
-    assert (np.diff(luminance(colours)) > 0).all()
-    assert luminance(colours)[-1] < 0.85  # paper is 1
-    scale = pictures.paint_numbers(np.arange(100.0), "x").colours(np.linspace(0, 1, 50))
-    assert (np.diff(luminance(scale)) < 0.005).all()
-
-
-def test_one_rich_block_doesnt_make_all_others_pale():
-    values = np.concatenate([np.linspace(0, 1, 999), [1e6, np.nan]])
-    found = pictures.paint_numbers(values, "x")
-    assert found.norm.vmax < 1.1
-    assert found.beyond in ("max", "both")
-    assert pictures.paint_numbers(np.full(5, 2.0), "x").norm(2.0) == 0.5
-    assert pictures.paint_numbers(np.full(3, np.nan), "x").norm.vmax == 1
 
 
 def test_outlines_differ_by_their_strokes(shells):
@@ -451,43 +357,3 @@ def test_pits_that_dont_pay_are_drawn_as_none(shells):
     figure = pictures.plan(poor, 100)
     assert figure.legends[0].get_texts()[0].get_text() == "Pit at factor 1.00: not here"
     assert np.isnan(drawn(figure)).all()
-
-
-def test_plot_and_page_write_what_they_name(tmp_path):
-    folder = written_study(tmp_path / "s")
-    assert pitplan("build", folder).returncode == 0 == pitplan("shells", folder).returncode
-    told = pitplan("plot", folder)
-    names = sorted(line.rsplit("/", 1)[1] for line in told.stdout.splitlines())
-    assert told.returncode == 0
-    assert len(names) == 3
-    assert names[0] == "pit-by-pit.png"
-    assert names[1].startswith("plan-")
-    assert names[2].startswith("section-row-")
-    told = pitplan(
-        "plot",
-        folder,
-        "--bench",
-        "100",
-        "--bench",
-        "115",
-        "--north",
-        "9020",
-        "--east",
-        "5020",
-        "--column",
-        "2",
-        "--colour",
-        "CU",
-        "--pit",
-        "0.6",
-    )
-    paths = told.stdout.splitlines()
-    assert told.returncode == 0
-    assert len(paths) == 5
-    assert all(p.endswith("-CU.png") and Path(p).is_file() for p in paths)
-    assert pitplan("page", folder, "--title", "North pit").returncode == 0
-    assert "<title>North pit: nested pits</title>" in (folder / "out/pits.html").read_text()
-    refused = pitplan("plot", folder, "--bench", "5000")
-    assert refused.returncode == 3
-    assert "no bench at elevation 5,000" in refused.stderr
-    assert not list((folder / "out").glob("*5000*"))

@@ -1,6 +1,9 @@
 """What the pictures of a schedule show is what its tables have."""
+from types import SimpleNamespace
+
 import mines
 import numpy as np
+import pitplan as pp
 import pytest
 import two_ways
 from matplotlib.backends.backend_agg import FigureCanvasAgg
@@ -8,30 +11,12 @@ from pitplan import Study
 from pitplan.schedule import Schedule
 from pitplan.schedule.tables import Tables
 from pitplan.study.study_file import read_study_file
-from pitplan.views import page, schedule_pictures, schedule_view
-
-TERMS = """
-[schedule]
-mining_rate = [600e3, 500e3]
-mill_rate = 400e3
-"""
-
-
-@pytest.fixture(scope="module")
-def found(tmp_path_factory):
-    folder = mines.written_study(
-        tmp_path_factory.mktemp("pictures") / "s",
-        mines.table(9, 8, 5, 5),
-        mines.STUDY_TOML.replace("price = 8500", "price = 24000") + TERMS,
-    )
-    plan = read_study_file(folder)
-    Study.create(folder, plan.read_model(), plan.economics, plan.slopes)
-    shells = Study(folder).shells(plan.factors)
-    return Schedule.of(shells, plan.values["schedule"], plan.rates, (0.01, 600))
+from pitplan.views import schedule_pictures
 
 
 def drawn(folder, text):
-    """The picture of a plan by years of a mine of several processes, and the texts of its first legend."""
+    """The picture of a plan by years of a mine of several processes, and the texts of its first
+    legend."""
     plan = read_study_file(two_ways.written(folder, "\n[schedule]\nmining_rate = 600e3\n", text))
     Study.create(folder, plan.read_model(), plan.economics, plan.slopes)
     shells = Study(folder).shells(plan.factors)
@@ -120,28 +105,46 @@ def test_a_section_and_a_bench_show_the_year_of_each_block(found):
         assert np.array_equal(shown, wanted, equal_nan=True)
 
 
-def test_the_page_has_the_mine_at_the_end_of_each_year(found, tmp_path):
-    """Heights are added up block by block from the schedule, and facts are the figures of the table."""
-    years = Tables(found).years()
-    view = schedule_view.schedule(found, years)
-    model = found.shells.study.model
-    wanted = np.zeros((len(years), *model.grid.shape[:2]), int)
-    b = model.blocks
-    for i, j, t in zip(b.ix, b.iy, found.period):
-        if t >= 0:
-            wanted[t, i, j] += 1
-    assert len(view.levels) == len(years) + 1
-    assert np.array_equal(view.levels[:-1].astype(int) - view.levels[1:].astype(int), wanted)
-    facts = dict(view.table.columns)
-    assert [int(text.replace(",", "")) for text in facts["Blocks"]] == years.blocks.tolist()
-    flows = next(texts for name, texts in facts.items() if name.startswith("Cash flow"))
-    assert [float(text.replace(",", "")) for text in flows] == pytest.approx(
-        (years.cash_flow / 1e6).tolist(), abs=0.006
+@pytest.fixture(scope="module")
+def thin(tmp_path_factory):
+    """A section of small blocks, of which each year digs a bench; the lowest first, which a picture
+    doesn't mind."""
+    folder = tmp_path_factory.mktemp("thin")
+    mines.table(64, 5, 12, 3).to_csv(folder / "t.csv", index=False)
+    model = pp.read_table(folder / "t.csv", size=mines.SIZE)
+    years = SimpleNamespace(
+        shells=SimpleNamespace(study=SimpleNamespace(model=model)),
+        period=model.blocks.iz.to_numpy() - 2,
+        production=SimpleNamespace(terms=SimpleNamespace(per_year=1)),
     )
-    assert facts["Rate that binds"] == [text or "-" for text in years.binds]
-    assert view.table.names == [str(t) for t in years.year]
-    assert view.slider == "After year"
-    assert f"{int(found.npv):,}" in view.said[0]
-    assert found.gap_text in view.said[0]
-    path = page.write_views(tmp_path / "s.html", found.shells.study, [view], "schedule")
-    assert "Schedule by years" in path.read_text()
+    figure = schedule_pictures.section(years, 2)
+    FigureCanvasAgg(figure).draw()
+    return figure
+
+
+def test_outlines_leave_most_of_a_year_that_is_one_block_thin_in_its_colour(thin):
+    """By the picture's own points: a bench of 15 m has a line and its casing above and below, half
+    of each within it."""
+    axes = thin.axes[0]
+    low, high = axes.transData.transform([(5000, 107.5), (5000, 122.5)])[:, 1]
+    points = (high - low) * 72 / thin.dpi
+    outlines = [line for line in axes.lines if line.get_path_effects()]
+    assert len(outlines) == 10
+    for line in outlines:
+        (casing,) = line.get_path_effects()
+        assert 0 < line.get_linewidth() < casing._gc["linewidth"] <= points / 3
+
+
+def test_the_scale_names_the_first_year_and_the_last(thin):
+    """Of ten there is room for fewer."""
+    named = [label.get_text() for label in thin.axes[1].get_yticklabels()]
+    assert len(named) < 10
+    assert (named[0], named[-1]) == ("1", "10")
+    boxes = [label.get_window_extent() for label in thin.axes[1].get_yticklabels()]
+    assert all(low.y1 < high.y0 for low, high in zip(boxes, boxes[1:]))
+
+
+def test_a_section_by_year_has_the_toes_of_benches_beside_it(thin):
+    axes = thin.axes[0]
+    toes = [92.5 + 15 * i for i in range(13)]  # of twelve benches, and the last crest
+    assert sorted({*axes.get_yticks(), *axes.get_yticks(minor=True)}) == toes

@@ -1,5 +1,5 @@
-"""Pushbacks that were widened, in the report, on the page and beside exports: sums in loops over the planner's table, by the pushback of
-each block that `phases` wrote."""
+"""Pushbacks that were widened, in the report, on the page and beside exports: sums in loops over
+the planner's table, by the pushback of each block that `phases` wrote."""
 import re
 from collections import Counter
 
@@ -49,8 +49,8 @@ def pushbacks_in(folder):
 def test_a_report_shows_the_set_that_phases_cut_last(folder):
     said("phases", folder, "0.6,1.0")
     plain = weighed(folder)
-    told = said("report", "--phases", "0.6,1.0", folder)
-    assert "pushbacks as cut between proved pits\n" in told
+    output = said("report", "--phases", "0.6,1.0", folder)
+    assert "pushbacks as cut between proved pits\n" in output
     rock, caption, fact, captions = pushbacks_in(folder)
     assert rock == pytest.approx(plain)
     assert "as cut between proved pits: after each" in caption
@@ -60,8 +60,8 @@ def test_a_report_shows_the_set_that_phases_cut_last(folder):
     said("phases", folder, *WIDEN)
     wide = weighed(folder)
     assert wide != pytest.approx(plain)
-    told = said("report", "--phases", "0.6,1.0", folder)
-    assert "pushbacks widened to 40 m, as phases widened them last" in told
+    output = said("report", "--phases", "0.6,1.0", folder)
+    assert "pushbacks widened to 40 m, as phases widened them last" in output
     rock, caption, fact, captions = pushbacks_in(folder)
     assert rock == pytest.approx(wide)
     assert "widened to 40 m: after each the mine keeps the slopes" in caption
@@ -71,15 +71,15 @@ def test_a_report_shows_the_set_that_phases_cut_last(folder):
 
 def test_other_factors_than_the_widened_are_told(folder):
     said("phases", folder, *WIDEN)
-    told = said("report", "--xlsx", "--phases", "0.6,1.2", folder)
-    assert "pushbacks as cut between proved pits: those that were widened last end at 0.6,1" in told
+    text = said("report", "--xlsx", "--phases", "0.6,1.2", folder)
+    assert "pushbacks as cut between proved pits: those that were widened last end at 0.6,1" in text
     assert "as cut" in pushbacks_in(folder)[1]
 
 
 def test_a_page_shows_the_widened_set(folder):
     said("phases", folder, *WIDEN)
-    told = said("page", "--phases", "0.6,1.0", folder)
-    assert "pushbacks widened to 40 m" in told
+    output = said("page", "--phases", "0.6,1.0", folder)
+    assert "pushbacks widened to 40 m" in output
     text = (folder / "out/pits.html").read_text()
     assert "<h2>Pushbacks, widened to 40 m</h2>" in text
     assert "none of the others is a best one" in text
@@ -93,18 +93,19 @@ def test_a_page_shows_the_widened_set(folder):
 
 def test_an_export_says_where_the_pushbacks_are(folder):
     said("phases", folder, *WIDEN)
-    told = said("export", "--to", "csv", folder)
-    assert "these are pits by factor; pushbacks, widened to 40 m, are in" in told
+    text = said("export", "--to", "csv", folder)
+    assert "these are pits by factor; pushbacks, widened to 40 m, are in" in text
     said("phases", folder, "0.6,1.0")
     assert "pushbacks, as cut, are in" in said("export", "--to", "csv", folder)
 
 
 def test_pushbacks_are_exported_as_they_were_widened(folder):
-    """A row for each block with its pushback in csv and in vtu; in dxf the area of each bench of the mine after each, by the shoelace."""
+    """A row for each block with its pushback in csv and in vtu; in dxf the area of each bench of
+    the mine after each, by the shoelace."""
     said("phases", folder, *WIDEN)
-    told = said("export", "--to", "csv,vtu,dxf", "--phases", "0.6,1.0", folder)
-    assert "pushbacks widened to 40 m" in told
-    assert "layers PUSHBACK_<factor>_TOE" in told
+    text = said("export", "--to", "csv,vtu,dxf", "--phases", "0.6,1.0", folder)
+    assert "pushbacks widened to 40 m" in text
+    assert "layers PUSHBACK_<factor>_TOE" in text
     of = {row["id"]: row["pushback"] for row in rows_of(folder / "out/phase_blocks.csv")}
     rows = rows_of(folder / "out/pushbacks.csv")
     rock = {row["IJK"] for row in rows_of(folder / "t.csv")}
@@ -147,12 +148,12 @@ def test_pushbacks_that_come_out_otherwise_are_no_report(folder):
         re.sub('"blocks": ".', '"blocks": "e', kept.replace('"blocks": "e', '"blocks": "0'))
     )
     words = ["report", "--phases", "0.6,1.0", folder]
-    told = pitplan(*words)
-    assert told.returncode == 3
-    assert "aren't those that were widened to 40 last" in told.stderr
-    assert re.search(r"try: \S*pitplan phases \S+ 0\.6,1 --widen 40", told.stderr)
+    ran = pitplan(*words)
+    assert ran.returncode == 3
+    assert "aren't those that were widened to 40 last" in ran.stderr
+    assert re.search(r"try: \S*pitplan phases \S+ 0\.6,1 --widen 40", ran.stderr)
     note.write_text("{}")
-    told = pitplan(*words)
-    assert told.returncode == 3
-    assert "phases.json is damaged: it has no factors" in told.stderr
+    ran = pitplan(*words)
+    assert ran.returncode == 3
+    assert "phases.json is damaged: it has no factors" in ran.stderr
     note.write_text(kept)

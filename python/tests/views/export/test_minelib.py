@@ -1,5 +1,5 @@
-"""The model as MineLib's files: the pairs against a plain search, the values against the text that `pit` reads, and the pit of the
-three files against that of the two."""
+"""The model as MineLib's files: the pairs against a plain search, the values against the text that
+`pit` reads, and the pit of the three files against that of the two."""
 import subprocess
 import tomllib
 from decimal import Decimal

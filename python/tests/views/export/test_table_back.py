@@ -104,7 +104,8 @@ RECORDS = [
     ],
 )
 def test_each_record_gets_its_own_cell(tmp_path, monkeypatch, kinds, end):
-    """Plain lines, blank lines, cells in quotes with line ends, and a carriage return within a line, in pieces of any length."""
+    """Plain lines, blank lines, cells in quotes with line ends, and a carriage return within a
+    line, in pieces of any length."""
     cells = [b",0.4", b",0.85", b",1", b","]
     for seed in range(60):
         r = np.random.default_rng(seed)
@@ -119,7 +120,7 @@ def test_each_record_gets_its_own_cell(tmp_path, monkeypatch, kinds, end):
         ]
         last = end if r.random() < 0.7 else b""
         (tmp_path / "t.csv").write_bytes(end.join([b"a,b,c", *rows]) + last)
-        monkeypatch.setattr(table_back, "PIECE", int(r.choice([1, 9, 40, 1 << 22])))
+        monkeypatch.setattr(table_back, "CHUNK_SIZE", int(r.choice([1, 9, 40, 1 << 22])))
         table_back.rewrite(tmp_path / "t.csv", tmp_path / "back.csv", b",pit_shell", cells, shell)
         wanted = [
             row + (cells[shell[n]] if n < len(shell) else cells[-1]) if row.strip() else row
@@ -179,3 +180,18 @@ def test_a_column_of_that_name_is_kept(tmp_path):
     shells = study_of(tmp_path, f).shells([1000])
     table_back.write(shells, tmp_path / "back.csv")
     assert pd.read_csv(tmp_path / "back.csv").columns[-2:].tolist() == ["pit_shell", "pit_shell_2"]
+
+
+def test_a_letter_that_the_encoding_hasnt_is_told(tmp_path):
+    """And the mark at the head of a table in UTF-8 comes to no cell."""
+    table(6, 5, 4, 3).to_csv(tmp_path / "t.csv", index=False, encoding="utf-8-sig")
+    model = pp.read_table(tmp_path / "t.csv", size=SIZE)
+    study = pp.Study.create(tmp_path / "s", model, costs(), pp.Slopes(45))
+    sent = {"sent": np.full(len(study.model), "\u6d78")}
+    with pytest.raises(pp.PlanError, match="can't be written in cp1252, the table's encoding"):
+        table_back.write_columns(study, sent, tmp_path / "back.csv", "cp1252")
+    assert not (tmp_path / "back.csv").exists()
+    assert table_back.write_columns(study, sent, tmp_path / "back.csv", "utf-8-sig")
+    text = (tmp_path / "back.csv").read_text("utf-8-sig")
+    assert ",\u6d78\n" in text
+    assert "\ufeff" not in text

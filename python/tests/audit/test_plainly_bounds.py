@@ -1,0 +1,130 @@
+"""plainly.py on bounds of schedules: it says what `pit bound` says, of mines of units and of the
+blocks of a best pit, and refuses what it refuses."""
+import gzip
+import os
+import re
+import shutil
+import subprocess
+import sys
+from pathlib import Path
+
+import mines
+import numpy as np
+import pytest
+import two_ways
+from bundles import rechecked, with_schedule
+from pitplan.audit import plainly
+from pitplan.pit.program import Pit
+from pitplan.schedule.unit_texts import UnitTexts
+from planned import RICH
+from six_blocks import made_up
+from tiny_mines import TinyMine
+
+TERMS = '\n[schedule]\nyears = 4\nmining_rate = 500e3\nmill_rate = 300e3\ncutoff = "by year"\n'
+
+
+def plain(*words):
+    """What plainly.py says."""
+    ran = subprocess.run(
+        [sys.executable, "-I", plainly.__file__, *map(str, words)], capture_output=True, text=True
+    )
+    assert not ran.stderr, ran.stderr
+    return ran.stdout.strip(), ran.returncode
+
+
+MADE = {
+    "blocks": lambda: made_up(1)[0],
+    "a sink rate": lambda: made_up(1, True)[0],
+    "ways": lambda: made_up(2, True, True)[0],
+    "several processes": lambda: made_up(2, True, True, leaches=True)[0],
+    "panels and a clock": lambda: TinyMine(5, panel=2).production,
+}
+
+
+@pytest.mark.parametrize("kind", MADE)
+def test_it_says_the_bound_of_units(tmp_path, kind):
+    made, r = MADE[kind](), np.random.default_rng(3)
+    nodes = UnitTexts(made)
+    prices = r.integers(0, 10**6, made.capacities.shape)
+    said = nodes.closed(Pit(), tmp_path, prices, None).said
+    mine = nodes.mine(Pit(), tmp_path, prices)
+    certificate = tmp_path / "bound.cert.gz"
+    assert plain(*mine.words(), certificate) == (f"BOUND {said}", 0)
+    text = gzip.decompress(certificate.read_bytes()).decode()
+    (tmp_path / "c").write_text(re.sub(r"PIT \d+\n", "", text, count=1))
+    line, status = plain(*mine.words(), tmp_path / "c")
+    assert line.startswith(("REFUSED", "fault")), line
+    assert status
+    mine.periods.write_text(nodes.periods(prices + 1))
+    line, status = plain(*mine.words(), certificate)
+    assert (line.startswith(("REFUSED", "BOUND")), line != f"BOUND {said}") == (True, True)
+
+
+@pytest.fixture(scope="module")
+def bundle(tmp_path_factory):
+    """A bundle with a plan of single blocks by ways."""
+    return with_schedule(tmp_path_factory.mktemp("plan"), mines.table(6, 5, 4, 5), RICH + TERMS)
+
+
+@pytest.fixture(scope="module")
+def of_processes(tmp_path_factory):
+    """Likewise where several processes have rates, so that each block goes one of them or to waste."""
+    terms = '\n[schedule]\nyears = 5\nmining_rate = 600e3\ncutoff = "by year"\n'
+    text = two_ways.TEXT.replace("rate = 120e3", "rate = 60e3").replace("250e3", "100e3")
+    return with_schedule(
+        tmp_path_factory.mktemp("ways"), two_ways.frame(), text + terms, (0.06, 60)
+    )
+
+
+@pytest.mark.parametrize("kind", ["bundle", "of_processes"])
+def test_recheck_lets_pit_and_plainly_judge_a_plan_by_ways(request, kind):
+    """Beside its bound, within the pit of certificates/."""
+    folder, found = request.getfixturevalue(kind)
+    ran = subprocess.run(
+        [sys.executable, "-I", folder / "recheck.py", "--plainly", os.environ["PIT"]],
+        capture_output=True,
+        text=True,
+    )
+    assert ran.returncode == 0, ran.stdout
+    of_ways = 'each block by whichever way (cutoff = "by year")'
+    told = rf"ok +pit schedule of the plan by years, .* {re.escape(of_ways)}: (.*)"
+    said = re.search(told, ran.stdout)[1]
+    words = f"SCHEDULE {found.count} {found.said.npv} BROKEN 0 BOUND {found.said.bound}"
+    assert said == f"{words} GAP {found.said.gap}"
+    assert f"plainly.py of its bound: BOUND {found.said.bound}\n" in ran.stdout
+
+
+def test_recheck_refuses_a_block_that_goes_to_another_process(of_processes, tmp_path):
+    """A way by which it would gain too: what the schedule is worth, and the rates, are others then."""
+    folder, found = Path(shutil.copytree(of_processes[0], tmp_path / "bundle")), of_processes[1]
+    millable = found.production.millable
+    both = set(millable.block[~millable.is_first].tolist())
+    rows = [row.split() for row in open(folder / "schedule/schedule.txt")]
+    one = next(row for row in rows if int(row[0]) in both and row[2] != "2")
+    one[2] = "1" if one[2] == "0" else "0"
+    (folder / "schedule/schedule.txt").write_text("".join(" ".join(row) + "\n" for row in rows))
+    ran = subprocess.run(
+        [sys.executable, "-I", folder / "recheck_schedule.py"], capture_output=True, text=True
+    )
+    assert (ran.returncode, ran.stdout[:5]) == (1, "WRONG"), ran.stdout
+
+
+@pytest.mark.parametrize(
+    "name, change",
+    [
+        ("schedule/schedule.txt", lambda text: re.sub(r" 0 ", " 1 ", text, count=1)),
+        (
+            "schedule/periods.toml",
+            lambda text: text.replace("multipliers = [[", "multipliers = [[9"),
+        ),
+        ("schedule/uses.blocks", lambda text: re.sub(r"(\d+)\n", r"1\1\n", text)),
+    ],
+)
+def test_recheck_refuses_a_plan_that_was_changed(bundle, tmp_path, name, change):
+    folder = Path(shutil.copytree(bundle[0], tmp_path / "bundle"))
+    text = (folder / name).read_text()
+    (folder / name).write_text(change(text))
+    assert change(text) != text
+    lines, status = rechecked(folder)
+    assert status == 1
+    assert any("pit schedule of the plan" in line for line in lines), lines

@@ -1,0 +1,54 @@
+"""What `schedule` says of a search while it goes on and once it ended."""
+import json
+import math
+
+import two_ways
+from planned import run
+from pitplan.cli import schedule as command
+from pitplan.schedule.search_ends import End, STOPPED
+from pitplan.schedule.search import Found
+
+
+def test_how_far_a_search_is_in_words():
+    one = Found(bound=200_000_000, npv=199_000_000, closures=1, filled=1)
+    words = "0.500% below the bound, 1 period filled, 1 pit of the mine of blocks and periods"
+    assert command._words(one) == words
+    assert "2 periods filled, 3 pits of" in command._words(Found(200, 199, 3, 2))
+    assert command._words(Found()).startswith("no bound yet, 0 periods filled, 0 pits of")
+
+
+def test_the_facts_of_a_search_that_was_stopped():
+    """In units of currency; what isn't there yet is null, and no NaN or Infinity comes."""
+    found = Found(bound=200_000_000, npv=199_000_000, closures=3, filled=4)
+    end = End(STOPPED, 0.001, 1800.0)
+    facts = json.loads(json.dumps(found.facts | end.facts, allow_nan=False))
+    assert (float(facts["npv"]), float(facts["bound"])) == (199, 200)
+    assert math.isclose(facts["gap_percent"], 0.5)
+    assert (facts["is_judged"], facts["ended"]) == (False, "ctrl-C")
+    assert (facts["asked_gap_percent"], facts["asked_minutes"]) == (0.1, 30)
+    assert Found().facts["gap_percent"] is None
+
+
+def test_the_planners_own_table_keeps_its_encoding(tmp_path):
+    """Also in the cells that come to it: one reader reads the whole file."""
+    text = two_ways.TEXT + "\n[schedule]\nyears = 6\n"
+    for was, now in (
+        ('name = "leach"', 'name = "lixivia\u00e7\u00e3o"'),
+        ('"t.csv"', '"t.csv"\nencoding = "cp1252"'),
+        ("OXI =", '"\u00d3XI" ='),
+        ('"OXI"', '"\u00d3XI"'),
+    ):
+        text = text.replace(was, now)
+    folder = two_ways.written(tmp_path / "s")
+    (folder / "study.toml").write_text(text, "utf-8")
+    table = two_ways.frame().replace("OXI", "\u00d3XI")
+    table.to_csv(folder / "t.csv", index=False, encoding="cp1252")
+    run("build", folder)
+    run("shells", folder)
+    run("schedule", folder, "--gap", "10")
+    lines = (folder / "out" / "schedule_t.csv").read_text("cp1252").splitlines()
+    assert [line.rsplit(",", 2)[0] for line in lines] == (folder / "t.csv").read_text(
+        "cp1252"
+    ).splitlines()
+    sent = {line.rsplit(",", 1)[1] for line in lines[1:]}
+    assert "lixivia\u00e7\u00e3o" in sent <= {"lixivia\u00e7\u00e3o", "mill", "waste", ""}

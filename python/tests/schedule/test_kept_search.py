@@ -1,0 +1,105 @@
+"""What is kept of a search, damaged."""
+import gzip
+import shutil
+import subprocess
+import sys
+
+import pytest
+
+from pitplan import PlanError
+from pitplan.pit.program import Pit
+from planned import PITPLAN, built, scheduled
+
+
+@pytest.fixture(scope="module")
+def study(tmp_path_factory):
+    folder = built(tmp_path_factory.mktemp("kept") / "s")
+    scheduled(folder, (0.05, 5))
+    return folder
+
+
+@pytest.fixture
+def kept(study, tmp_path):
+    """What is kept, which is put back after a test."""
+    place = study / "runs" / "schedule"
+    shutil.copytree(place, tmp_path / "kept")
+    yield place
+    shutil.rmtree(place)
+    shutil.copytree(tmp_path / "kept", place)
+
+
+def test_what_is_damaged_is_told(study, kept):
+    path = kept / "bound" / "bound.json"
+    path.write_text(path.read_text().replace('"closures": ', '"closures": -'))
+    with pytest.raises(PlanError, match="bound.json is damaged: closures") as told:
+        scheduled(study)
+    assert told.value.try_this == f"rm -r {path.parent}: the next search finds a bound anew"
+    path.unlink()
+    with pytest.raises(PlanError, match="bound.json is gone"):
+        scheduled(study)
+    shutil.rmtree(path.parent)
+    assert scheduled(study, (0.05, 5)).closures >= 1
+
+
+def flipped(data, at):
+    return data[:at] + bytes([data[at] ^ 1]) + data[at + 1 :]
+
+
+@pytest.mark.parametrize(
+    "damage",
+    [
+        lambda data: flipped(data, len(data) - 6),
+        lambda data: data[:300] + b"\xff" * 60 + data[360:],
+        lambda data: data[: len(data) // 2],
+        lambda data: b"",
+        lambda data: gzip.compress(b"another one"),
+        None,
+    ],
+    ids=["a bit of the sum", "60 bytes", "cut", "empty", "another", "gone"],
+)
+@pytest.mark.parametrize("name", ["bound/bound.cert.gz", "schedule.npz"])
+def test_a_damaged_file_is_told_by_its_name(study, kept, name, damage):
+    """Each way, and with what to do, which then does; nothing is lost in silence."""
+    path = kept / name
+    if damage:
+        path.write_bytes(damage(path.read_bytes()))
+    else:
+        path.unlink()
+    with pytest.raises(PlanError, match=f"{name} is {'damaged: ' if damage else 'gone'}") as told:
+        scheduled(study, (0.05, 5))
+    what = told.value.try_this.split(": the next search ")[0].split()
+    is_schedule = damage and name == "schedule.npz"
+    assert what == ["rm", "-r", str(kept / "bound"), *[str(path)] * bool(is_schedule)]
+    if damage is None or not path.read_bytes():
+        subprocess.run(what, check=True)
+        assert scheduled(study, (0.05, 5)).gap < 5
+
+
+def test_what_a_killed_search_leaves_is_swept_away(study, kept, monkeypatch):
+    """By the next one; folders of processes that are still there stay."""
+    shutil.rmtree(kept)
+    words = [sys.executable, PITPLAN, "schedule", study, "--gap", "0"]
+    begun = subprocess.Popen(words, stdout=subprocess.DEVNULL, stderr=subprocess.PIPE, text=True)
+    for line in begun.stderr:
+        if line.startswith("a pit of the mine of blocks and periods"):
+            break
+    (alive,) = kept.glob(".closures.*")
+    begun.kill()
+    begun.communicate()
+    assert alive.is_dir()
+    names, own = [], Pit.schedule
+
+    def judging(*args):
+        names.extend(path.name for path in kept.glob(".judged.*"))
+        return own(*args)
+
+    monkeypatch.setattr(Pit, "schedule", judging)
+    scheduled(study, (0.05, 5))
+    assert not list(kept.glob(".closures.*"))
+    host, number = alive.name.split(".")[2:4]
+    assert number == str(begun.pid)
+    (kept / f".judged.{host}.{number}.x").mkdir()
+    (kept / f".judged.{host}.1.x").mkdir()
+    scheduled(study, (0.05, 5))
+    assert {path.name for path in kept.glob(".*.*")} == {f".judged.{host}.1.x"}
+    assert all(name.startswith(f".judged.{host}.") and name.count(".") == 4 for name in names)

@@ -1,0 +1,364 @@
+"""What looks wrong of a study: of each slip a word, and of mines that are right none."""
+import re
+import sys
+
+import numpy as np
+import pytest
+
+from mines import below, table, written_study
+from pitplan.study.check import check
+from processes import TOP
+from slips import STUDY, cell, slipped
+
+
+def density(factor=1.0):
+    """A frame with a density in place of tonnes."""
+
+    def change(frame):
+        return frame.assign(SG=(frame["TONNES"] / 6000 * factor).round(3)).drop(columns="TONNES")
+
+    return change
+
+
+def unweighed(frame):
+    frame = density()(frame)
+    return frame.assign(SG=frame["SG"].where(frame["ZC"] < frame["ZC"].max(), -99))
+
+
+def upside_down(frame):
+    return frame.assign(ZC=1000 - frame["ZC"])
+
+
+LOOKS = [
+    (
+        "a price a pound told as a tonne",
+        ("price = 8500", "price = 3.86"),
+        None,
+        "copper costs 3.86 $ a t; about 8,500 is usual\n  try: price = 8509.8 of copper",
+        ("economics", "metals", "copper", "price"),
+    ),
+    (
+        "a price a tonne told as a pound",
+        ("price = 8500", 'price = 8500, price_unit = "lb"'),
+        None,
+        'copper costs 8,500 $ a lb; about 3.86 is usual\n  try: price_unit = "t" of copper',
+        ("economics", "metals", "copper", "price"),
+    ),
+    (
+        "gold a gram told as an ounce",
+        ("price = 1900", "price = 61"),
+        None,
+        'gold costs 61 $ a oz; about 1,900 is usual\n  try: price = 1897.3 of gold, or price_unit = "g"',
+        ("economics", "metals", "gold", "price"),
+    ),
+    (
+        "percent told as ppm",
+        ('grade = "CU"', 'grade = "CU", grade_unit = "ppm"'),
+        None,
+        "copper brings 0.",
+        ("economics", "metals", "copper"),
+    ),
+    (
+        "g/t told as percent",
+        ('grade_unit = "g/t"', 'grade_unit = "%"'),
+        None,
+        "the ore brings",
+        ("economics", "metals"),
+    ),
+    (
+        "density in kg/m3",
+        None,
+        density(1000),
+        "for each cubic unit; rock has 1.5 to 5",
+        ("model", "size"),
+    ),
+    (
+        "kilotonnes",
+        None,
+        lambda frame: frame.assign(TONNES=frame["TONNES"] / 1000),
+        "for each cubic unit; rock has 1.5 to 5",
+        ("model", "size"),
+    ),
+    (
+        "costs in cents",
+        ("OXI = 7.5, SUL = 9.0", "OXI = 750, SUL = 900"),
+        None,
+        "no block pays for its treatment",
+        ("economics", "metals"),
+    ),
+    (
+        "forbid that holds nowhere",
+        ("mining = 2.0", 'mining = 2.0\nforbid = ["XC > 60000"]'),
+        None,
+        "holds for no block",
+        ("economics", "forbid"),
+    ),
+    (
+        "forbid that holds everywhere",
+        ("mining = 2.0", 'mining = 2.0\nforbid = ["XC > 500"]'),
+        None,
+        "forbid keeps .* blocks of rock from being dug; it keeps a corridor",
+        ("economics", "forbid"),
+    ),
+    (
+        "z counted downward",
+        None,
+        upside_down,
+        'ground is uneven above, not below\n  try: z = "depth" in [model]',
+        ("model", "z"),
+    ),
+    (
+        "a depth as an elevation",
+        ("size =", 'columns = { z = "DEPTH" }\nsize ='),
+        lambda frame: frame.rename(columns={"ZC": "DEPTH"}),
+        "z is read from DEPTH as an elevation",
+        ("model", "z"),
+    ),
+    (
+        "a density that isn't known counts as 0",
+        None,
+        unweighed,
+        "rows have no SG, as absent says, and weigh nothing",
+        ("model", "absent"),
+    ),
+    (
+        "x and y swapped in a model that isn't turned",
+        ("rotation = 0", 'columns = { x = "YC", y = "XC" }'),
+        None,
+        'YC is a usual name of y.*\n  try: columns = { x = "XC", y = "YC", .*z = "ZC", .* } in',
+        ("model", "columns", "x"),
+    ),
+    (
+        "digging for nothing",
+        ("mining = 2.0", "mining = 0"),
+        None,
+        "digging costs nothing for 296 of 296 blocks",
+        ("economics", "mining"),
+    ),
+    (
+        "one cell a thousand times too large",
+        None,
+        cell("AU", 7, 1610.0),
+        "row 9 has 1,610 g/t in AU; the next largest cell is 0.",
+        ("economics", "metals", "gold", "grade"),
+    ),
+    (
+        "a block that weighs too much",
+        None,
+        cell("TONNES", 7, 1.5e6),
+        "row 9 weighs 1,500,000 tonnes; half of all blocks weigh 1",
+        ("model", "columns"),
+    ),
+    (
+        "a formula by which a rock of the mill weighs nothing",
+        ("rotation = 0", "rotation = 0\ntonnes = \"where(ROCK == 'OXI', 2.35, 0) * 6000\""),
+        None,
+        "SUL weighs nothing in any of its 154 blocks by the formula of tonnes, and is in mill",
+        ("model", "tonnes"),
+    ),
+    (
+        "a density ten times too large",
+        None,
+        lambda frame: cell("SG", 7, 26.7)(density()(frame)),
+        "row 9 has a density of 26.7 by SG; half of all blocks have 2.49",
+        ("model", "columns"),
+    ),
+    (
+        "a density many times that of light rock",
+        None,
+        lambda frame: cell("SG", 7, 6.5)(density(0.4)(frame)),
+        "row 9 has a density of 6.5 by SG; half of all blocks have 0.997",
+        ("model", "columns"),
+    ),
+    (
+        "selling a pound told as a tonne",
+        ("selling = 420", "selling = 0.19"),
+        None,
+        "selling a t of copper costs 0.19, and its price is 8,500",
+        ("economics", "metals", "copper", "selling"),
+    ),
+    (
+        "selling a tonne told as a pound",
+        ("price = 8500, recovery", 'price = 3.86, price_unit = "lb", recovery'),
+        None,
+        "selling a lb of copper costs 420",
+        ("economics", "metals", "copper", "selling"),
+    ),
+    (
+        "rates the other way round",
+        ("mining_rate = 1e6\nmill_rate = 5e5", "mining_rate = 5e5\nmill_rate = 1e6"),
+        None,
+        "no more is milled than is dug",
+        ("shells", "mill_rate"),
+    ),
+    (
+        "a rate in million tonnes",
+        ("mill_rate = 5e5", "mill_rate = 0.5"),
+        None,
+        "at 0.5 tonnes a year the ore of the whole model takes",
+        ("shells", "mill_rate"),
+    ),
+    (
+        "a rate by year in million tonnes",
+        ("mill_rate = 5e5", "mill_rate = 5e5\n[schedule]\nmill_rate = [0.3, 0.4]"),
+        None,
+        "at 0.4 tonnes a year the ore of the whole model takes",
+        ("schedule", "mill_rate"),
+    ),
+    (
+        "a rate by year of digging, a thousand times too large",
+        ("mill_rate = 5e5", "mill_rate = 5e5\n[schedule]\nmining_rate = 1e9"),
+        None,
+        "at 1,000,000,000 tonnes a year the rock of the whole model takes",
+        ("schedule", "mining_rate"),
+    ),
+    (
+        "a discount of a point moved",
+        ("discount = 0.08", "discount = 0.85"),
+        None,
+        "discount = 0.85 is 85 % a year",
+        ("shells", "discount"),
+    ),
+    (
+        "a rate a day",
+        ("mining_rate = 1e6\nmill_rate = 5e5", "mining_rate = 2740\nmill_rate = 1370"),
+        None,
+        "at 2,740 tonnes a year the rock of the whole model takes",
+        ("shells", "mining_rate"),
+    ),
+    (
+        "bearings against the clock",
+        ("[[0, 38], [90, 45], [180, 50], [270, 42]]", "[[270, 38], [180, 45], [90, 50], [0, 42]]"),
+        None,
+        "a bearing counts clockwise from north",
+        ("slopes", "angles"),
+    ),
+    (
+        "a region on the wrong side",
+        ("rotation = 0", "rotation = 0"),
+        lambda frame: frame.assign(SECTOR=np.where(frame["SECTOR"] == "WEST", "EAST", "WEST")),
+        "the region WEST lies on the other side",
+        ("slopes", "regions", "WEST"),
+    ),
+    (
+        "a column of percent that nothing reads",
+        None,
+        lambda frame: frame.assign(**{"TOPO%": np.linspace(3, 100, len(frame)).round(1)}),
+        "nothing reads the column TOPO%, which is from 3 to 100",
+        ("model", "columns"),
+    ),
+]
+
+
+@pytest.mark.parametrize(
+    "text, frame, said, key", [row[1:] for row in LOOKS], ids=[row[0] for row in LOOKS]
+)
+def test_a_slip_looks_wrong(tmp_path, text, frame, said, key):
+    found = check(slipped(tmp_path / "s", text, frame))
+    assert not found.errors, list(map(str, found.errors))
+    hits = [
+        look
+        for look in found.looks
+        if re.search(
+            said.replace("[", r"\[")
+            .replace("(", r"\(")
+            .replace("$", r"\$")
+            .replace("+", r"\+")
+            .replace("%", "%"),
+            str(look),
+        )
+    ]
+    assert len(hits) == 1, [(str(look), look.key) for look in found.looks]
+    assert hits[0].key == key, [(str(look), look.key) for look in found.looks]
+    assert hits[0].try_this, [(str(look), look.key) for look in found.looks]
+
+
+def test_a_rock_with_grades_that_weighs_nothing_looks_wrong(tmp_path):
+    """Its blocks and those with a grade are counted in the table; air, a rock without any grade, and
+    one that weighs something in a block are right."""
+    base = table(9, 8, 5, 5)
+    kinds = np.array(["OXI", "SUL", "DYKE", "VOID", "air", "PART"])
+    frame = base.assign(ROCK=kinds[np.arange(len(base)) % 6])
+    frame.loc[frame.ROCK.isin(["VOID", "air"]), ["CU", "AU"]] = 0.0
+    weights = "where(ROCK == 'OXI' or ROCK == 'SUL' or ROCK == 'PART' and ZC > 120, 2.4, 0) * 6000"
+    text = STUDY.replace("rotation = 0", f'rotation = 0\ntonnes = "{weights}"')
+    text = text.replace("SUL = 9.0", "SUL = 9.0, other = 0")
+    found = check(written_study(tmp_path / "s", frame, text))
+    assert not found.errors, list(map(str, found.errors))
+    dyke = frame[frame.ROCK == "DYKE"]
+    graded = ((dyke.CU > 0) | (dyke.AU > 0)).sum()
+    (hit,) = [str(look) for look in found.looks if "weighs nothing" in str(look)]
+    assert f"DYKE weighs nothing in any of its {len(dyke)} blocks" in hit
+    assert f"and has grades in {graded}" in hit
+    assert "tonnes in [model]" in hit
+
+
+def test_nothing_looks_wrong_in_a_mine_that_is_right(tmp_path):
+    found = check(slipped(tmp_path / "s", None, None))
+    assert not found.errors, (found.errors, list(map(str, found.looks)))
+    assert not found.looks, (found.errors, list(map(str, found.looks)))
+
+
+HILL = (
+    re.search(
+        r"\$ cat hill/study.toml\n(.*?)\n\nWhat", (TOP / "docs" / "PLANNING.md").read_text(), re.S
+    )[1]
+    .replace("\n    ", "\n")
+    .strip()
+    .replace("../examples", str(TOP / "examples"))
+)
+PLAIN = """[model]
+table = "t.csv"
+size = [20, 20, 10]
+[economics]
+mining = 2.1
+processing = 9.5
+metals = [ { name = "copper", grade = "grade", price = 6500, recovery = 0.88 } ]
+[slopes]
+angles = 45
+"""
+WALLS = PLAIN.replace("[20, 20, 10]", "[10, 10, 10]").replace('"grade"', '"CU"')
+
+
+def of_the_day(path):
+    sys.path.insert(0, str(TOP / "tests"))
+    from program import day_mine
+
+    with open(path, "w", newline="") as file:
+        day_mine.write_table(day_mine.blocks(), file)
+
+
+def of_examples(path):
+    path.write_bytes((TOP / "examples" / "small_model.csv").read_bytes())
+
+
+def of_a_cliff(path):
+    below(3).to_csv(path, index=False)
+
+
+@pytest.mark.parametrize(
+    "text, write",
+    [(HILL, None), (PLAIN, of_the_day), (PLAIN, of_examples), (WALLS, of_a_cliff)],
+    ids=["the hill", "tests/day", "small_model.csv", "beside a cliff"],
+)
+def test_nothing_looks_wrong_in_the_mines_of_the_repository(tmp_path, text, write):
+    (tmp_path / "study.toml").write_text(text)
+    if write:
+        write(tmp_path / "t.csv")
+    found = check(tmp_path)
+    assert not found.errors, ([*map(str, found.errors)], [*map(str, found.looks)])
+    assert not found.looks, ([*map(str, found.errors)], [*map(str, found.looks)])
+    assert found.priced is not None, ([*map(str, found.errors)], [*map(str, found.looks)])
+
+
+@pytest.mark.parametrize("seed", range(4))
+def test_nothing_looks_wrong_in_mines_of_the_tests(tmp_path, seed):
+    found = check(
+        written_study(
+            tmp_path / "s",
+            table(9, 8, 5, seed, rotation=30 * seed),
+            STUDY.replace("rotation = 0", f"rotation = {30 * seed}"),
+        )
+    )
+    assert not found.errors, ([*map(str, found.errors)], [*map(str, found.looks)])
+    assert not found.looks, ([*map(str, found.errors)], [*map(str, found.looks)])

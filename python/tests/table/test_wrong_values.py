@@ -1,0 +1,58 @@
+"""What is wrong with a section's values."""
+import re
+
+import pytest
+
+from pitplan.table.wrong_values import wrong_in
+
+
+@pytest.mark.parametrize(
+    "key, words",
+    [
+        ("prices", "prices that change by year"),
+        ("min_mill_rate", "a least feed"),
+        ("blending", "blending"),
+        ("stockpile", "a stockpile"),
+    ],
+)
+def test_where_no_law_holds_the_key_is_refused_by_name(key, words):
+    (error,) = wrong_in("schedule", {key: [1.0, 1.1], "years": 3})
+    assert re.search(words + ".* no bound is proved", str(error))
+    assert error.key == ("schedule", key)
+    assert error.try_this
+    assert not wrong_in("schedule", {"years": 3})
+
+
+@pytest.mark.parametrize(
+    "name, value, better",
+    [
+        ("years", 101, "years = 100"),
+        ("years", 2.5, "years = 2"),
+        ("per_year", 0, "per_year = 1"),
+        ("when", "late", 'when = "start" or "mid" or "end"'),
+        ("mining_rate", [1, -2], "mining_rate = [15e6, 20e6]"),
+        ("pushbacks", [2], "pushbacks = [0.5, 0.75]"),
+        ("lead", 2000, "lead = 1000"),
+        ("fixed_cost", -1, "fixed_cost = 0"),
+        ("discount", -0.02, "discount = 0"),
+    ],
+)
+def test_a_wrong_value_of_the_schedule_comes_with_one_that_it_may_have(name, value, better):
+    (error,) = wrong_in("schedule", {name: value})
+    assert (error.key, error.try_this) == (("schedule", name), better)
+
+
+@pytest.mark.parametrize(
+    "name, value, told",
+    [
+        ("mining_rate", [1, -2], "each above 0; year 2 is -2"),
+        ("mining_rate", -2, "each above 0"),
+        ("process_rates", {"mill": 1, "leach": [1, 2, 0]}, "by year; leach in year 3 is 0"),
+        ("process_rates", {"heap leach": "1"}, "by year, without quotes"),
+        ("process_rates", {"mill": 1, "leach": -1}, "by year; leach is -1"),
+        ("process_rates", {}, "by year"),
+    ],
+)
+def test_of_several_rates_the_first_wrong_one_is_named(name, value, told):
+    (error,) = wrong_in("schedule", {name: value})
+    assert error.what.endswith(told)
