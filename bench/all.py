@@ -20,11 +20,14 @@ HERE = Path(__file__).resolve().parent
 
 RUNS = [
     ("The check of a certificate", ["check.py", "--rounds", "5"]),
+    ("The same by one thread and by four", ["check.py", "--threads", "--rounds", "5"]),
     ("Both files of a model", ["check.py", "--readers", "--models", "marvin", "mclim", "b2m"]),
     ("`.prec` alone", ["check.py", "--prec", "--models", "marvin", "mclim", "b1m"]),
     ("`.blocks` alone, three columns of which none is chosen", ["check.py", "--blocks"]),
     ("`pit slopes`: reading, looking up and writing", ["slopes.py"]),
     ("Whole runs of `pit solve`, by pseudoflow", ["solve_peers.py"]),
+    ("The mine of blocks and periods", ["periods.py"]),
+    ("The same by settings with 29 offsets", ["periods.py", "--slopes"]),
     ("Instructions of `pit solve` and `pit check`", ["instructions.py"]),
     (
         "Mines of 3 to 15 million blocks, solved with no further options",

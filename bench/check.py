@@ -6,6 +6,7 @@
     bench/check.py --prec       the reading of a .prec file alone, in MB/s
     bench/check.py --blocks     the reading of a .blocks file alone, in MB/s
     bench/check.py --slopes     settings that list 29 offsets and blocks, beside the same mine by a .prec file: d300k and d1m
+    bench/check.py --threads    the check by one thread and by four, which may use four cores: seconds that pass, and CPU seconds
 
 The certificates are those of `pit solve`, in GROUP PAIR, or with --group worth those of Boost's solver (bench/peers/boost_bk).
 Both programs run on one core, in turns, and the best of the rounds counts. This is a measurement and no test: it holds no time
@@ -97,6 +98,29 @@ def check(models, given):
         ],
         rows,
     )
+
+
+def by_threads(models, given):
+    """The same check by one thread and by four, over four cores: by the clock, and what it costs."""
+    rows, cores = [], "0-3"
+    for mine in models:
+        with tempfile.TemporaryDirectory() as folder:
+            cert = certificate_of(mine, given.group, folder)
+            checked = [str(PIT), "check", *files_of(mine), cert, "--threads"]
+            one, four, peers = rounds(
+                [[*checked, "1"], [*checked, "4"], [peer("checker"), mine.prec, mine.upit, cert]],
+                given.rounds,
+                cores,
+            )
+        if len({r.output for r in one + four + peers}) != 1:
+            sys.exit(f"bench: {mine.name}: {one[-1].output} {four[-1].output}")
+        walls = [min(run.wall for run in runs) for runs in (one, four, peers)]
+        rows.append(
+            [mine.name, *(f"{wall:.3f}" for wall in walls), f"{walls[1] / walls[0]:.2f}"]
+            + [f"{best(runs)[0]:.3f}" for runs in (one, four)]
+        )
+    head = ["model", "1 thread, wall s", "4 threads, wall s", "peer, wall s", "4 by 1"]
+    table([*head, "1 thread, CPU s", "4 threads, CPU s"], rows)
 
 
 def truncated(folder):
@@ -334,6 +358,9 @@ def main():
         "--slopes", action="store_true", help="check over settings, and over a .prec file"
     )
     words.add_argument(
+        "--threads", action="store_true", help="check by one thread and by four, by the clock"
+    )
+    words.add_argument(
         "--group",
         choices=["pair", "worth"],
         default="pair",
@@ -347,7 +374,8 @@ def main():
     if given.slopes:
         slopes([model(name) for name in given.models or ["d300k", "d1m"]], given)
         return
-    measure = readers if given.readers else prec if given.prec else check
+    modes = (given.readers, readers), (given.prec, prec), (given.threads, by_threads), (True, check)
+    measure = next(mode for is_asked, mode in modes if is_asked)
     usual = ["marvin", "mclim", "b350k", "b2m"]
     measure([model(name) for name in given.models or usual], given)
 

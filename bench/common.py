@@ -22,6 +22,7 @@ GENERATED = {
     "kd": "14153 52 52 22 cone2 3 1.7 cone",
     "marvin": "53271 61 60 17 knight 4 2.4 box",
     "mclim": "112687 100 100 36 cone29 5 1.2 cone",
+    "b120k": "120000 90 90 30 nine 6 1.3 box",
     "b350k": "350000 125 120 26 nine 6 1.3 box",
     "b1m": "1040000 180 180 40 five 7 1.0 box",
     "b2m": "2000000 240 240 40 five 7 1.0 box",

@@ -4,97 +4,20 @@
     python3 bench/gate_cost.py python3 tests/run
 
 Prints what the command prints, and then a row per crate: its lines and edits, and the seconds of its proof, of the same
-once more with its tests, of the edits that the kit tries, and of those that are tried by a check of their function. The processes are looked at every half second, so what a process does in its
-last moments isn't counted: the sum is some percent below the whole, which the last line gives. What others run beside it isn't
-counted either.
+once more with its tests, of the edits that the kit tries, and of those that are tried by a check of their function
+(tools/gate_seconds.py counts them, some percent too low); then the sums, also in the budget's seconds. The last line gives what
+all processes took.
 """
-import os
 import resource
 import subprocess
 import sys
-import threading
 import time
 from pathlib import Path
 
 TOP = Path(__file__).resolve().parent.parent
-TICK = os.sysconf("SC_CLK_TCK")
-KINDS = ("proof", "tests", "edits", "by function")
-# The folders in which edits are tried: by the kit, over a proof of their whole crate, and by tests/edits/must_fail.py, by a check of their function.
-ROOMS = {"rt-edit-": "edits", "pit-edit-": "by function"}
+sys.path.insert(0, str(TOP / "tools"))
 
-
-def words_of(pid):
-    try:
-        with open("/proc/%d/cmdline" % pid, "rb") as it:
-            return it.read().decode(errors="replace").split("\0")
-    except OSError:
-        return []
-
-
-def task_of(pid):
-    """The crate and the kind of work of a process of the prover, or None."""
-    words = words_of(pid)
-    if "--crate-name" not in words:
-        return None
-    try:
-        room = os.path.basename(os.readlink("/proc/%d/cwd" % pid))
-    except OSError:
-        return None
-    of_edit = [kind for begin, kind in ROOMS.items() if room.startswith(begin)]
-    return (
-        words[words.index("--crate-name") + 1],
-        of_edit[0] if of_edit else "tests" if "--test" in words else "proof",
-    )
-
-
-def processes():
-    """Each process: its parent and its own processor seconds."""
-    found = {}
-    for name in filter(str.isdigit, os.listdir("/proc")):
-        try:
-            with open("/proc/%s/stat" % name) as it:
-                fields = it.read().rpartition(")")[2].split()
-        except OSError:
-            continue
-        found[int(name)] = int(fields[1]), (int(fields[11]) + int(fields[12])) / TICK, fields[19]
-    return found
-
-
-class Watcher(threading.Thread):
-    def __init__(self):
-        super().__init__(daemon=True)
-        self.tasks, self.seconds, self.is_over = {}, {}, False
-        self.own = {
-            os.getpid()
-        }  # this process and those below it; who is seen with a parent that isn't one never is
-
-    def look(self):
-        found = processes()
-        for pid in sorted(found):
-            parent, seconds, began = found[pid]
-            key = pid, began
-            if key not in self.tasks:
-                above = found.get(parent)
-                self.tasks[key] = None
-                if parent in self.own:
-                    self.own.add(pid)
-                    self.tasks[key] = task_of(pid) or (
-                        self.tasks.get((parent, above[2])) if above else None
-                    )
-            if self.tasks[key]:
-                self.seconds[key] = seconds
-
-    def run(self):
-        while not self.is_over:
-            self.look()
-            time.sleep(0.5)
-
-    def table(self):
-        rows = {}
-        for key, seconds in self.seconds.items():
-            crate, kind = self.tasks[key]
-            rows.setdefault(crate, dict.fromkeys(KINDS, 0.0))[kind] += seconds
-        return rows
+from gate_seconds import KINDS, Watcher, summary  # noqa: E402
 
 
 def lines_in(folder, pattern, is_wanted=lambda file: True):
@@ -160,12 +83,11 @@ def print_table(seconds):
 
 
 def main():
-    began, watcher = time.monotonic(), Watcher()
-    watcher.start()
-    status = subprocess.run(sys.argv[1:]).returncode
-    watcher.is_over = True
-    watcher.join()
+    began = time.monotonic()
+    with Watcher() as watcher:
+        status = subprocess.run(sys.argv[1:]).returncode
     print_table(watcher.table())
+    print("\n".join(summary(watcher.table(), time.monotonic() - began)))
     used = resource.getrusage(resource.RUSAGE_CHILDREN)
     print(
         "%.0f processor seconds in all, %.0f s by the clock"

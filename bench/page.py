@@ -78,6 +78,7 @@ def made_up(columns, levels, pits):
         model=model,
         currency="$",
         priced=economics.priced(model),
+        classes=None,
         key="0" * 64,
         manifest={
             "currency": "$",

@@ -99,7 +99,7 @@ def engine(count):
 def realisations(count):
     study = built(72, 64, 24, count)
     began, before = time.time(), seconds_of(resource.RUSAGE_CHILDREN)
-    local.run_local(study, risk.tasks(study), 4)
+    local.run_local(study, risk.risk_tasks(study), 4)
     took, cpu = time.time() - began, seconds_of(resource.RUSAGE_CHILDREN) - before
     began, own = time.time(), seconds_of(resource.RUSAGE_SELF)
     found = risk.Risk(study)

@@ -14,6 +14,7 @@ from __future__ import annotations
 import argparse
 import io
 import json
+import math
 import os
 import re
 import resource
@@ -34,6 +35,7 @@ import pandas as pd
 HERE = Path(__file__).resolve().parent
 ROWS = HERE / "scale.csv"
 SCHEDULES = HERE / "schedules.csv"  # of bench/schedules.py
+REACH = HERE / "reach.csv"  # of bench/reach.py
 FACTORS = (600, 1000, 1200)
 # A table's columns, rows and levels of blocks, and how many levels up a predecessor may lie: 13 predecessors for 2, 25 for 5.
 MODELS = {
@@ -153,7 +155,7 @@ def one_task(folder, number):
     sys.path.insert(0, str(HERE.parent / "python"))
     with step("start"):
         from pitplan.plans.task_line import Task
-        from pitplan.tasks.task import Tasks
+        from pitplan.tasks.tasks import Tasks
 
         tasks, task = Tasks(Path(folder)), Task("realisation", number, FACTORS)
         study = tasks.study(task)
@@ -496,8 +498,8 @@ class Case:
 def asked_mb(pairs):
     """What `pitplan submit` asks a scheduler for."""
     with_pitplan()
-    from pitplan.tasks.engines import SPARE
-    from pitplan.tasks.task import memory_by_size
+    from pitplan.tasks.clusters import SPARE
+    from pitplan.tasks.tasks import memory_by_size
 
     return SPARE * memory_by_size(BLOCKS, round(pairs)) / 1e6
 
@@ -544,7 +546,7 @@ def show_case(case):
 
 def show_limits(case):
     """Where such a study meets a limit, the nearest first where that can be said."""
-    from pitplan.tasks.engines import Limits
+    from pitplan.tasks.clusters import Limits
     from pitplan.slopes.offsets import PAIRS
 
     from simulated_cluster import Cluster
@@ -642,6 +644,25 @@ def show_schedules(path):
     lines(head, rows)
 
 
+def show_reach(path):
+    """How near to its bound a schedule can come."""
+    rows = [
+        [
+            row["case"],
+            f"{row['units']:,}",
+            f"{row['npv']:,.2f}",
+            f"{row['bound']:,.2f}",
+            f"{row['nearer']:,.2f}",
+            f"{row['gap']:.3f} %",
+            f"{math.floor(row['own'] * 1000) / 1000:.3f} %",  # at least
+            f"{math.ceil(row['left'] * 1000) / 1000:.3f} %",  # at most
+        ]
+        for row in pd.read_csv(path).to_dict("records")
+    ]
+    head = ["", "units", "npv", "bound", "second", "below the bound", "its own", "left"]
+    lines(head, rows)
+
+
 def show():
     model = Model(pd.read_csv(ROWS))
     case = Case(model)
@@ -652,6 +673,7 @@ def show():
         (show_clusters, case),
         (show_limits, case),
         (show_schedules, SCHEDULES),
+        (show_reach, REACH),
     ):
         part(of)
 

@@ -36,6 +36,8 @@ CASES = {
     "50k sink 6": ((50, 44, 25), 10, 0.2, {"sink": 6}),
     "50k panel 2": ((50, 44, 25), 10, 0.2, {"panel": 2}),
     "day": (DAY, 10, 0.2, {}),
+    "day sink 5": (DAY, 10, 0.2, {"sink": 5}),
+    "day panel 2": (DAY, 10, 0.2, {"panel": 2}),
     "60k veins": (VEINS, 14, 0.2, {}),
     "60k veins sink 5": (VEINS, 14, 0.2, {"sink": 5}),
     "60k veins panel 2": (VEINS, 14, 0.2, {"panel": 2}),
