@@ -1,4 +1,4 @@
-//! How many steps a run may have.
+//! How many steps a run of push-relabel may have.
 
 ghost use Rattle.std.specs.Prelude.{◌≡◌};
 

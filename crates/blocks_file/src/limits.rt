@@ -1,4 +1,4 @@
-//! How many columns may be chosen.
+//! How many columns of a `.blocks` text may be chosen.
 
 ghost use Rattle.std.specs.Prelude.{◌≡◌};
 

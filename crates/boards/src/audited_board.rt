@@ -10,7 +10,7 @@ ghost use Rattle.boards.specs.Boards.{shown_state, blocks_of_board};
 ghost use Rattle.boards.specs.Audits.{IsAudited, IsAuditOpened, IsAuditTurn, IsToldAs, HasAuditEnded, AuditGoesOn, HasAuditSettled};
 
 use crate::finishing::finish_recorded;
-use crate::recorded_board::Recorded;
+use crate::common_board::Recorded;
 use crate::turn::{End, Turn};
 use async_step::Event;
 use closure_net::{Flow, Net};

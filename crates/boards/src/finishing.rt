@@ -6,7 +6,7 @@ ghost use Rattle.boards.specs.Runs.{AreTurnsTo};
 ghost use Rattle.boards.specs.Records.{RecordGoesOn};
 ghost use Rattle.boards.specs.Ends.{AreIdleBelow, HasEnded, GoesOn};
 
-use crate::recorded_board::Recorded;
+use crate::common_board::Recorded;
 use crate::turn::{End, Turn};
 use crate::turn_board::TurnBoard;
 use async_step::MOST_STEPS;

@@ -36,8 +36,8 @@
 
 mod audited_board;
 mod board;
+mod common_board;
 mod finishing;
-mod recorded_board;
 mod turn;
 mod turn_board;
 

@@ -10,7 +10,7 @@ ghost use Rattle.boards.specs.Ends.{HasEnded, GoesOn};
 
 use crate::board::Board;
 use crate::finishing::finish_recorded;
-use crate::recorded_board::Recorded;
+use crate::common_board::Recorded;
 use crate::turn::{End, Turn};
 use closure_net::Net;
 use ordered_group::OrderedGroup;

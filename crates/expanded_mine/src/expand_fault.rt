@@ -5,7 +5,7 @@
 pub enum ExpandFault {
     /// There are more than 2^24 nodes: blocks times periods.
     TooManyNodes,
-    /// There are more than 2^36 pairs of nodes, or a block rests on more than 2^27 others.
+    /// There are more than 2^36 pairs of nodes.
     TooManyPairs,
     /// What a node is worth doesn't fit 128 bits.
     TooLarge,

@@ -1,4 +1,4 @@
-//! Which blocks wait for which, and how long.
+//! Which blocks are dug at least so many periods after which others, as a sink rate asks.
 
 use prec_file::Predecessors;
 

@@ -1,4 +1,4 @@
-//! The labels that the blocks of a search have before it.
+//! The labels that blocks have before a search by pseudoflow over places and offsets.
 
 ghost use Rattle.std.specs.Prelude.{◌≡◌, ◌<◌, ◌-◌, ◌^◌, length, IfOk};
 

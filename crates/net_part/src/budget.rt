@@ -1,4 +1,4 @@
-//! How long a search may go on.
+//! How many turns are left to a search for the richest pit by pseudoflow.
 
 ghost use Rattle.std.specs.Prelude.{◌≡◌, ◌+◌, ◌<◌, ◌≤◌, IfOk, IfErr};
 

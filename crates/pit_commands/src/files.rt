@@ -29,10 +29,24 @@ pub fn check_files<'a, R: Files + Print + Eprint + Threads + Sync + AllocGlobal>
     threads: Option<u32>,
 ) -> Result<Verdict, EngineFault> {
     let mut mine = open_mine(rt, args.verbose, args.prec, args.model, threads)?;
+    check_over(rt, args, &mut mine)
+}
+
+// Checks a certificate over a mine.
+//
+// # Errors
+// As for the files of the mine.
+fn check_over<'a, R: Files + Print + Eprint + Threads + Sync + AllocGlobal>(
+    rt: &'a R,
+    args: CheckArgs<'a>,
+    mine: &mut MineInputs<Counted<ReportingFile<'a, R, R::File>>>,
+) -> Result<Verdict, EngineFault>
+    requires { CanCount mine.old (λ device. device.failures) }
+{
     let heard = InputNotes::nothing(rt.alloc());
     let mut certificate = open_file(rt, args.verbose, args.certificate, heard)?;
     let mut out = Counted::new(output(rt, args.verbose, None));
-    check_engine(rt, rt.alloc(), &mut mine, &mut certificate, &mut out)
+    check_engine(rt, rt.alloc(), mine, &mut certificate, &mut out)
 }
 
 /// Repeats a run over the mine of files from the file of its trace.
@@ -45,14 +59,25 @@ pub fn replay_files<'a, R: Files + Print + Eprint + Threads + Sync + AllocGlobal
     asked: ReplayAsked,
 ) -> Result<Verdict, EngineFault> {
     let mut mine = open_mine(rt, args.verbose, args.prec, args.model, None)?;
-    let mut trace = open_file(
-        rt,
-        args.verbose,
-        args.trace,
-        InputNotes::nothing(rt.alloc()),
-    )?;
+    replay_over(rt, args, asked, &mut mine)
+}
+
+// Repeats a run over a mine.
+//
+// # Errors
+// As for the files of the mine.
+fn replay_over<'a, R: Files + Print + Eprint + Threads + Sync + AllocGlobal>(
+    rt: &'a R,
+    args: ReplayArgs<'a>,
+    asked: ReplayAsked,
+    mine: &mut MineInputs<Counted<ReportingFile<'a, R, R::File>>>,
+) -> Result<Verdict, EngineFault>
+    requires { CanCount mine.old (λ device. device.failures) }
+{
+    let heard = InputNotes::nothing(rt.alloc());
+    let mut trace = open_file(rt, args.verbose, args.trace, heard)?;
     let mut out = Counted::new(output(rt, args.verbose, None));
-    replay_engine(rt, rt.alloc(), &mut mine, &mut trace, asked, &mut out)
+    replay_engine(rt, rt.alloc(), mine, &mut trace, asked, &mut out)
 }
 
 /// Judges the design of a file over the mine of files, beside the pit of a certificate where one is named.

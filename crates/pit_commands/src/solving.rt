@@ -34,22 +34,44 @@ use workers::Gate;
 /// # Errors
 /// `Device` where a file can't be opened; then those of the engine.
 pub fn solve_files<
+    'a,
     R: Files + Print + Eprint + Threads + Wait + Sync + AllocGlobal,
     T: Gate + Progress + Outcome,
 >(
-    rt: &R,
-    args: SolveArgs<'_>,
-    way: SolveWay<'_>,
+    rt: &'a R,
+    args: SolveArgs<'a>,
+    way: SolveWay<'a>,
     factor: Factor,
     threads: Option<u32>,
     watch: &T,
 ) -> Result<Verdict, EngineFault> {
     let mut mine = open_mine(rt, args.verbose, args.prec, args.model, threads)?;
+    solve_over(rt, args, way, factor, &mut mine, watch)
+}
+
+// Solves a mine as it is asked for.
+//
+// # Errors
+// `Device` where the file of a trace can't be made; then those of the engine.
+fn solve_over<
+    'a,
+    R: Files + Print + Eprint + Threads + Wait + Sync + AllocGlobal,
+    T: Gate + Progress + Outcome,
+>(
+    rt: &'a R,
+    args: SolveArgs<'a>,
+    way: SolveWay<'a>,
+    factor: Factor,
+    mine: &mut MineInputs<Counted<ReportingFile<'a, R, R::File>>>,
+    watch: &T,
+) -> Result<Verdict, EngineFault>
+    requires { CanCount mine.old (λ device. device.failures) }
+{
     match way {
         SolveWay::LockFree(effort) => {
             let asked = LockFreeAsked { factor, effort };
             let mut out = Counted::new(output(rt, args.verbose, Some(advice_to_solve(args))));
-            solve_lock_free_engine(rt, rt.alloc(), &mut mine, asked, watch, &mut out)
+            solve_lock_free_engine(rt, rt.alloc(), mine, asked, watch, &mut out)
         }
         SolveWay::ByMethod { group, effort } => {
             let asked = SolveAsked {
@@ -58,7 +80,7 @@ pub fn solve_files<
                 effort,
             };
             let mut out = Counted::new(output(rt, args.verbose, Some(advice_to_solve(args))));
-            solve_engine(rt, rt.alloc(), &mut mine, asked, watch, &mut out)
+            solve_engine(rt, rt.alloc(), mine, asked, watch, &mut out)
         }
         SolveWay::Traced {
             group,
@@ -71,7 +93,7 @@ pub fn solve_files<
                 effort,
                 room: trace.room,
             };
-            solve_traced(rt, args, trace, &mut mine, asked, watch)
+            solve_traced(rt, args, trace, mine, asked, watch)
         }
     }
 }

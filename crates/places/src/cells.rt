@@ -1,4 +1,4 @@
-//! Which block is in which cell. Two blocks in one cell are refused.
+//! Which block is in which cell of the grid of places. Two blocks in one cell are refused.
 
 ghost use Rattle.std.specs.Prelude.{◌+◌, ◌<◌, ◌≤◌, ℕ, length, slice_index_or, MatchResult};
 ghost use Rattle.places.specs.Grids.{AreCells, GridFaultStands};

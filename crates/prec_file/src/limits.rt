@@ -1,4 +1,4 @@
-//! How many pairs there may be.
+//! How many pairs of a block and a predecessor there may be.
 
 ghost use Rattle.std.specs.Prelude.{◌≡◌};
 

@@ -1,4 +1,4 @@
-//! Who rests on whom, by block alone.
+//! Which predecessors each block has, found by the block alone.
 
 ghost use Rattle.std.specs.Prelude.{◌≡◌, ◌<◌, ◌≤◌, All, IfOk, MatchOption, length, map, slice_index_or};
 ghost use Rattle.std.specs.List.{Contains};

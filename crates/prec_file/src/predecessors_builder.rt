@@ -1,4 +1,4 @@
-//! Who rests on whom, listed block by block.
+//! Lists the predecessors of one block after another.
 
 ghost use Rattle.std.specs.Prelude.{◌≡◌, ℕ, ◌+◌, ◌++◌, ◌<◌, ◌≤◌, List, [], All, IfOk, IsTrue, MatchResult, OnOk, OnErr, length, map, vec_capacity};
 ghost use Rattle.prec_file.specs.Parts.{AreRowsAdded};

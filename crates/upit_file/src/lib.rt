@@ -45,11 +45,11 @@ mod name;
 mod part_reading;
 mod reading;
 mod record;
-mod record_line;
 mod seen;
 mod upit;
 mod upit_fault;
 mod writing;
+mod written_record;
 
 pub use limits::NAME_BYTES;
 pub use reading::{declared_blocks, read_upit, read_values};

@@ -1,4 +1,4 @@
-//! How long a name may be.
+//! How long the name in a `.upit` text may be.
 
 ghost use Rattle.std.specs.Prelude.{◌≡◌};
 

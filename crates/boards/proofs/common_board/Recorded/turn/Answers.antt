@@ -3,7 +3,7 @@ use Rattle.machine_law.specs.declared.events.Event.{Event}
 use Rattle.boards.specs.Prelude.{IsTurn, RecordView, record_view, RecordsTurns, written_by, events_after, Writes}
 use Rattle.boards.proofs.Ends.{turn_of_step}
 use Rattle.boards.proofs.Records.{room_due, written_is, recorded}
-use Rattle.boards.proofs.recorded_board.Recorded.turn.Goals as goal
+use Rattle.boards.proofs.common_board.Recorded.turn.Goals as goal
 
 pub write_down-requires : goal.write_down-requires
 write_down-requires g c e =

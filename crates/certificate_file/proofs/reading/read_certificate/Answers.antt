@@ -4,7 +4,7 @@ use Rattle.certificate_file.specs.declared.header.Wanted.{Wanted}
 use Rattle.certificate_file.specs.Prelude.{Piece, header_for, Covers, IsRead}
 use Rattle.certificate_file.proofs.Wants.{header_wanted}
 use Rattle.certificate_file.proofs.Whole.{IsEmpty, none_ascends, all_read}
-use Rattle.certificate_file.proofs.certificate.read_certificate.Goals as goal
+use Rattle.certificate_file.proofs.reading.read_certificate.Goals as goal
 
 pub read_body-requires-after_bounds : goal.read_body-requires-after_bounds
 read_body-requires-after_bounds g c = λ lives held.

@@ -1,6 +1,6 @@
 use Rattle.std.proofs.Common.{◌≡◌, ◌-◌, ◌++◌, length, take, replicate, ap, ◌∙◌, [], ◌∷◌, decimal}
 use Rattle.upit_file.proofs.RecordLines.{no_fraction_pushed, fraction_pushed}
-use Rattle.upit_file.proofs.record_line.push_fraction.Goals as goal
+use Rattle.upit_file.proofs.written_record.push_fraction.Goals as goal
 
 pub returns-then-millionths-eq0 : goal.returns-then-millionths-eq0
 returns-then-millionths-eq0 c = no_fraction_pushed c.args.millionths c.args.line.now c.if-millionths-eq0.true

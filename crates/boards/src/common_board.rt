@@ -1,5 +1,5 @@
-//! What a run with a history and one without have in common: steps that are picked by turns alone, and written down
-//! where that is asked for.
+//! A board whose steps are picked by turns alone, and written down where that is asked for: what a run with a history
+//! and one without have in common.
 
 ghost use Rattle.std.specs.Prelude.{◌≡◌, ◌↔◌, ◌<◌, ◌≤◌, true, IsTrue, IfOk, vec_len, vec_capacity};
 ghost use Rattle.machine_law.specs.declared.operations.Operation.TheVariants.{Idle};
