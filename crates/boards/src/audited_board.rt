@@ -9,8 +9,8 @@ ghost use Rattle.async_step.specs.declared.limits.TheConstants.{MOST_STEPS};
 ghost use Rattle.boards.specs.Boards.{shown_state, blocks_of_board};
 ghost use Rattle.boards.specs.Audits.{IsAudited, IsAuditOpened, IsAuditTurn, IsToldAs, HasAuditEnded, AuditGoesOn, HasAuditSettled};
 
-use crate::finishing::finish_recorded;
 use crate::common_board::Recorded;
+use crate::finishing::finish_recorded;
 use crate::turn::{End, Turn};
 use async_step::Event;
 use closure_net::{Flow, Net};

@@ -9,8 +9,8 @@ ghost use Rattle.boards.specs.Turns.{IsTurn};
 ghost use Rattle.boards.specs.Ends.{HasEnded, GoesOn};
 
 use crate::board::Board;
-use crate::finishing::finish_recorded;
 use crate::common_board::Recorded;
+use crate::finishing::finish_recorded;
 use crate::turn::{End, Turn};
 use closure_net::Net;
 use ordered_group::OrderedGroup;

@@ -6,8 +6,8 @@ ghost use Rattle.fixed_worth.specs.Laws.{with_line_feeds};
 ghost use Rattle.counted_devices.specs.Device.{ReceivedPrefix, SentOrHeld};
 ghost use Rattle.upit_file.specs.Writing as spec;
 
-use crate::written_record::record_line;
 use crate::upit::Upit;
+use crate::written_record::record_line;
 use counted_devices::{CountedWrite, Page, WriteFault};
 use fixed_worth::{MOST_BLOCKS, Micros, WrittenNumber};
 
