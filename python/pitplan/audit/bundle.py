@@ -29,6 +29,8 @@ if TYPE_CHECKING:
 SUMS = "SHA256SUMS"
 _SCRIPTS = ("recheck.py", "plainly.py")
 _KEPT = ("factor", "count", "worth", "certificate", "pit", "seconds", "host")
+# of model/manifest.json: each is held against the other files
+_OF_MODEL = ("key", "blocks", "regions", "pit", "currency", "metals")
 _README = """A bundle of pitplan %(version)s: the ultimate pits of %(table)s, and all that they rest on.
 
     python3 recheck.py /path/to/pit              checks all of it again, by Python's standard\
@@ -66,8 +68,11 @@ ACCEPTED, the number of blocks and the worth: the pit has all that its blocks re
 factor, over the files in model/. recheck.py compares these with the table, row by row.
 
 Nothing here shows that grades, densities, prices, costs and angles are true: read study.toml. Nor\
- are these worked out again:
-discounted worths and years in tables/, and, of sub-blocks, what digging added blocks costs.
+ is this worked out again:
+of sub-blocks, what digging added blocks costs. Each column of tables/ is; years and discounted\
+ worths there are of two simple
+orders, and of no schedule. Nothing shows host, seconds and pit of verdicts.json, nor the programs\
+ that facts.json names.
 Walls are as steep as asked only as nearly as whole blocks can be: `pitplan slopes` prints by how\
  much, for each bearing.
 docs/AUDIT.md of the repository of pit says what each check shows, line by line.
@@ -126,8 +131,7 @@ def write_bundle(
     with made_whole(folder, is_study=False) as work:
         name = f"table/{_plain_name(table.name)}"
         _copy_files(study, work, {plan: "study.toml", table: name})
-        # no path of the planner's machine
-        manifest = study.manifest | {"source": study.manifest["source"] | {"table": name}}
+        manifest = _manifest_of(study, name)
         (work / "model" / "manifest.json").write_text(json.dumps(manifest, indent=1))
         _write_certificates(shells, work)
         write_tables(shells, work, rates or {})
@@ -143,6 +147,17 @@ def write_bundle(
         )
         (work / SUMS).write_text("".join(f"{sha256(work / it)}  {it}\n" for it in names))
         return sha256(work / SUMS)
+
+
+def _manifest_of(study: Study, name: str) -> dict[str, Any]:
+    """What is said of the model: nothing that no other file shows, and no path of the planner's
+    machine; `name` is the table's in the bundle."""
+    kept = study.manifest
+    return {key: kept[key] for key in _OF_MODEL} | {
+        "files": {part: kept["files"][part] for part in READ},
+        "waste_classes": kept.get("waste_classes") or [],
+        "source": {"table": name, "sha256": kept["source"]["sha256"]},
+    }
 
 
 def _plain_name(name: str) -> str:

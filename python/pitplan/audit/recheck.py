@@ -47,6 +47,8 @@ KNOWN = (
     *("model/mine.blocks", "model/settings.toml", "model/manifest.json"),
     *("tables/pit_by_pit.csv", "tables/benches.csv", "tables/blocks.csv"),
 )
+# Those of model/ by whose digests the model is named.
+OF_MODEL = ("mine.blocks", "settings.toml")
 # What it has of a plan by years.
 OF_SCHEDULE = (
     *("recheck_schedule.py", "schedule/bound.cert.gz", "schedule/periods.toml"),
@@ -109,6 +111,22 @@ TOLD = 12  # offsets that a line names
 # worst errors to both sides the lesser is at least this share of the greater
 MEAN, WORST, SIGNED, SIDE = 0.5, 1.0, 0.25, 0.25
 TOLERANCE = 1e-6  # relative: numbers so near to each other are one
+# A float has 53 bits. Each sum rounds to the nearest, so it errs by at most this share of itself.
+FLOAT = 2.0**-53
+# The last ten bits of a float: the share of a block's own amount that may be lost where two programs
+# multiply the same numbers in another order, or take the means of sub-blocks.
+LEFT = 2.0**-42
+# pitplan writes a number of tables/ with 15 digits: half a unit of the last one is at most this share
+# of it. The floats next to what is written and to what is meant may be FLOAT off each, here and there.
+HALF_A_DIGIT = 5e-15 + 4 * FLOAT
+HALF_OF_TONNES = 5e-4  # half a unit of the last of the three decimals of tonnes in mine.blocks
+# The columns of pit_by_pit.csv beside those of amounts.
+PIT_BY_PIT = (
+    *("factor", "strip", "feed_t", "worth_at_factor", "worth_at_base"),
+    *("npv_best", "npv_worst", "years"),
+)
+NO_CLASS = "none"  # what the class of a block without one is called
+YEARS = 15  # that the largest pit takes, where study.toml has no rate
 # what a wall that is too steep weighs where none may be, and degrees that are none
 TOO_STEEP, EVEN = 1000, math.degrees(TOLERANCE) / 2
 OFFSETS_AT_MOST, MOST_LEVELS = 4096, 200
@@ -245,6 +263,7 @@ SLOPES = Kind(
 
 KEPT = Kind("a number above 0 and at most 1", lambda value: is_number(value, 0, 1) and value > 0)
 RATE = Kind("a number above 0, or a list of such numbers", is_rate)
+ONE_RATE = Kind("a number above 0", lambda value: is_number(value, 1e-12))
 COUNT = Kind("a whole number from 1 on", lambda value: is_whole(value, 1))
 MOST_WAYS = 8  # to treat a block
 
@@ -316,8 +335,8 @@ STUDY: dict[str, dict[str, Kind]] = {
             or is_table(value, is_number)
             and set(value) == set(SERIES),
         ),
-        "mining_rate": RATE,
-        "mill_rate": RATE,
+        "mining_rate": ONE_RATE,
+        "mill_rate": ONE_RATE,
         "discount": SHARE,
     },
     "schedule": {
@@ -374,6 +393,7 @@ NEEDED = ("metals", "mining", "name", "grade", "price", "cost")
 GRID = {
     "origin": Kind("three numbers", lambda value: is_list(value, is_number, 3, 3)),
     "size": SIZES,
+    "shape": Kind("three whole numbers", lambda value: is_list(value, is_whole, 3, 3)),
     "rotation": NUMERIC,
 }
 DIALECT = {
@@ -387,6 +407,7 @@ DIALECT = {
 }
 TABLE = Kind("a table", lambda value: isinstance(value, dict))
 FACTS = {
+    "pitplan": WORD,
     "pit": WORDS,
     "table": WORD,
     "sha256": DIGEST,
@@ -404,6 +425,10 @@ FACTS = {
     ),
 }
 MANIFEST = {
+    "key": DIGEST,
+    "pit": WORDS,
+    "metals": TABLE,
+    "waste_classes": WORDS,
     "source": TABLE,
     "files": Kind("a table of sha256", lambda value: is_table(value, DIGEST.holds)),
     "regions": Kind(
@@ -413,7 +438,11 @@ MANIFEST = {
     "blocks": WHOLE,
     "currency": WORD,
 }
+SOURCE = {"table": WORD, "sha256": DIGEST}
 VERDICT = {
+    "pit": WORDS,
+    "seconds": COST,
+    "host": WORD,
     "factor": Kind(
         "a whole number from 0 to 10,000", lambda value: is_whole(value, 0, 10 * THOUSAND)
     ),
@@ -680,7 +709,7 @@ def facts_of() -> dict[str, Any]:
 def manifest_of() -> dict[str, Any]:
     """model/manifest.json: what the model was made from and of."""
     found = looked_at("model/manifest.json:", load("model/manifest.json"), MANIFEST, MANIFEST)
-    looked_at("model/manifest.json: source,", found["source"], {"sha256": DIGEST}, ["sha256"])
+    looked_at("model/manifest.json: source,", found["source"], SOURCE, SOURCE)
     return found
 
 
@@ -1107,18 +1136,38 @@ def study_of(section: str, *keys: str) -> dict[str, Any]:
 
 
 def check_keys(report: Report) -> None:
-    """study.toml has no key that nothing reads: what that says would be in no number."""
-    strange = [
-        where + shown(key)
-        for where, table, known in keys_known(toml_of("study.toml"))
-        for key in table
-        if key not in known
-    ]
-    report.check(
-        not strange,
-        "each key of study.toml is one that pitplan reads"
-        + (f": not so for {'; '.join(strange[:TOLD])}" if strange else ""),
-    )
+    """study.toml has no key that nothing reads: what that says would be in no number. Nor has a file
+    of JSON one that pitplan doesn't write."""
+    each = {
+        "study.toml is one that pitplan reads": keys_known(toml_of("study.toml")),
+        "facts.json, model/manifest.json and verdicts.json is one that pitplan writes": keys_written(),
+    }
+    for what, tables in each.items():
+        strange = [
+            where + shown(key)
+            for where, table, known in tables
+            for key in table
+            if key not in known
+        ]
+        report.check(
+            not strange,
+            f"each key of {what}"
+            + (f": not so for {'; '.join(strange[:TOLD])}" if strange else ""),
+        )
+
+
+def keys_written() -> Iterator[tuple[str, dict[str, Any], Collection[Any]]]:
+    """The tables of the files of JSON, likewise. Digests of the model and regions are held against
+    the files by their names, and metals against study.toml."""
+    facts, manifest = facts_of(), manifest_of()
+    yield "facts.json: ", facts, FACTS
+    yield "facts.json: grid, ", facts["grid"], GRID
+    yield "facts.json: dialect, ", facts["dialect"], DIALECT
+    yield "facts.json: columns, ", facts["columns"], ROLES
+    yield "model/manifest.json: ", manifest, MANIFEST
+    yield "model/manifest.json: source, ", manifest["source"], SOURCE
+    for i, verdict in enumerate(verdicts_of(), 1):
+        yield f"verdicts.json: pit {i}, ", verdict, VERDICT
 
 
 def keys_known(plan: dict[str, Any]) -> Iterator[tuple[str, dict[str, Any], Collection[Any]]]:
@@ -1601,11 +1650,14 @@ class Treated(NamedTuple):
 
 class OfRows(NamedTuple):
     """What the table says row by row: the list of offsets that each block has, what each is made
-    of, and which blocks `forbid` keeps."""
+    of, which blocks `forbid` keeps, what each weighs, of which no digit is lost, and its resource
+    class, where the table has classes."""
 
     regions: list[int | None]
     worked: list[Worked | None]
     fenced: list[int]
+    tonnes: list[float]
+    classes: list[str] | None
 
 
 class Own(NamedTuple):
@@ -1760,10 +1812,21 @@ class Economics:
             raise Bad(
                 "study.toml: [economics] has waste_classes, and facts.json has no column of classes"
             )
+        return self.class_of(row) in wasted
+
+    def class_of(self, row: int) -> str:
+        """The resource class of the block of a row."""
         cell = self.cell(row, self.columns["class"])
         if isinstance(cell, float):
             cell = "" if math.isnan(cell) else f"{cell:.0f}" if cell.is_integer() else str(cell)
-        return (cell or "none") in wasted
+        return str(cell) or NO_CLASS
+
+    def classes(self, rows: list[int]) -> list[str] | None:
+        """The class of each block, by their rows; of one without a row it is none. Nothing where the
+        table has no classes."""
+        if "class" not in self.columns:
+            return None
+        return [self.class_of(row) if row >= 0 else NO_CLASS for row in rows]
 
     def of_row(self, row: int) -> Worked:
         """What the block of a row comes to."""
@@ -1812,7 +1875,8 @@ class Economics:
         return (
             math.isfinite(ours)
             and theirs % round(self.rounding * MICRO) == 0
-            and abs(theirs / MICRO - ours) <= self.rounding * 0.500001 + 1e-9 * abs(ours)
+            # half a unit of what amounts are rounded to, and not a thousandth of it more
+            and abs(theirs / MICRO - ours) <= self.rounding * 0.5 + LEFT * abs(ours)
         )
 
 
@@ -1865,14 +1929,19 @@ def check_facts(report: Report, blocks: Blocks, facts: dict[str, Any]) -> None:
     manifest, model = manifest_of(), study_of("model", "size", "rotation", "columns", "z")
     table, grid = digest_of(within(facts["table"])), facts["grid"]
     report.check(
-        table == facts["sha256"] == manifest["source"]["sha256"],
+        table == facts["sha256"] == manifest["source"]["sha256"]
+        and manifest["source"]["table"] == facts["table"],
         "the table is the one that the model was built from",
     )
-    # pitplan's own, not bundled
-    listed = {name: digest for name, digest in manifest["files"].items() if name != "blocks.npz"}
-    bad = [name for name, digest in listed.items() if digest_of(within(f"model/{name}")) != digest]
+    listed = manifest["files"]
+    bad = [
+        name
+        for name, digest in listed.items()
+        if name not in OF_MODEL or digest_of(within(f"model/{name}")) != digest
+    ]
+    key = hashlib.sha256("".join(listed.get(name, "") for name in OF_MODEL).encode()).hexdigest()
     report.check(
-        not bad and set(listed) == {"mine.blocks", "settings.toml"},
+        not bad and set(listed) == set(OF_MODEL) and manifest["key"] == key,
         "the files of model/ are those that were built"
         + (f": not so for {', '.join(bad)}" if bad else ""),
     )
@@ -1889,17 +1958,38 @@ def check_facts(report: Report, blocks: Blocks, facts: dict[str, Any]) -> None:
     )
     asked = {"size": model.get("size", grid["size"]), "rotation": model.get("rotation", 0.0)}
     columns = {**facts["columns"], **model.get("columns", {})}
+    shape = [1 + max(steps) for steps in zip(*blocks.places)]
     report.check(
         asked == {key: grid[key] for key in asked}
         and columns == facts["columns"]
-        and facts["depth"] == (model.get("z") == "depth"),
+        and facts["depth"] == (model.get("z") == "depth")
+        and grid["shape"] == shape,
         "the grid and the columns are those of [model] in study.toml",
     )
-    currency = study_of("economics", "currency").get("currency", "$")
+    check_sold(report, facts, manifest)
+    check_schedule_is_there(report, facts)
+
+
+def check_sold(report: Report, facts: dict[str, Any], manifest: dict[str, Any]) -> None:
+    """What both files say of [economics], and of the program that made the bundle."""
+    economics = economics_of()
+    currency = economics.get("currency", "$")
     report.check(
         currency == facts["currency"] == manifest["currency"], f"amounts are in {currency}"
     )
-    check_schedule_is_there(report, facts)
+    usual = {"grade": None, "grade_unit": "%", "price_unit": "t"}
+    metals = {
+        metal["name"]: {key: metal.get(key, value) for key, value in usual.items()}
+        for metal in economics["metals"]
+    }
+    report.check(
+        manifest["metals"] == metals
+        and manifest["waste_classes"] == economics.get("waste_classes", []),
+        "model/manifest.json has the metals and the waste_classes of study.toml",
+    )
+    report.check(
+        manifest["pit"] == facts["pit"], "model/manifest.json and facts.json name the same pit"
+    )
 
 
 # --- The plan by years: all its files are there, and pit schedule confirms it ---
@@ -2009,11 +2099,12 @@ def check_table(report: Report, blocks: Blocks, facts: dict[str, Any]) -> OfRows
     found = Added(table, economics, blocks, rows, asked)
     check_added(report, blocks, found)
     fenced = [b for b, row in enumerate(found.rows) if row >= 0 and economics.is_fenced(row)]
-    return OfRows(
-        found.regions(),
-        check_amounts(report, economics, blocks, found, set(fenced)),
-        fenced,
-    )
+    worked = check_amounts(report, economics, blocks, found, set(fenced))
+    tonnes = [
+        each.tonnes if each else found.sources[b][1] if b in found.sources else blocks.tonnes[b]
+        for b, each in enumerate(worked)
+    ]
+    return OfRows(found.regions(), worked, fenced, tonnes, economics.classes(rows))
 
 
 def check_rows(report: Report, table: Table, blocks: Blocks, rows: list[int]) -> bool:
@@ -2048,6 +2139,11 @@ def check_places(
             f"the {what} of each block is that of its row"
             + (f": not so for {len(bad):,}, the first is row {bad[0] + 2}" if bad else ""),
         )
+    fault = fault_of_origin(table, blocks, rows) if holds else None
+    holds &= report.check(
+        fault is None,
+        "the grid begins at the centre of a row" + (f": not so, {fault}" if fault else ""),
+    )
     fault = fault_of_size(table, [place for place, row in zip(blocks.places, rows) if row >= 0])
     return holds & report.check(
         fault is None,
@@ -2055,9 +2151,30 @@ def check_places(
     )
 
 
+def fault_of_origin(table: Table, blocks: Blocks, rows: list[int]) -> str | None:
+    """What is wrong with the origin of the grid, by which benches have their elevations: along each
+    axis it lies where the first row of the lowest blocks has its centre. Of sub-blocks it isn't
+    worked out."""
+    facts, known = table.facts, [each for each in zip(rows, blocks.places) if each[0] >= 0]
+    if isinstance(table, AddedUp) or not known:
+        return None
+    for axis, size in zip(range(3), facts["grid"]["size"]):
+        low = min(place[axis] for _, place in known)
+        row = min(row for row, place in known if place[axis] == low)
+        centre = [table.number(row, facts["columns"][key]) for key in "xyz"]
+        off = abs(local_steps(table, row, facts)[axis] - low) * size
+        if off > LEFT * sum(map(abs, (*centre, *facts["grid"]["origin"]))):
+            return f"along {'xyz'[axis]} it is {off:g} off the centre of row {row + 2}"
+    return None
+
+
 def is_of_weight(ours: float, theirs: float) -> bool:
-    """Whether tonnes of mine.blocks, which have three decimals, are these."""
-    return math.isfinite(theirs) and abs(ours - theirs) <= 6e-4 + 1e-9 * theirs
+    """Whether tonnes of mine.blocks, which have three decimals, are these, as nearly as that may be."""
+    return (
+        math.isfinite(theirs)
+        and theirs == round(theirs, 3)
+        and abs(ours - theirs) <= HALF_OF_TONNES + LEFT * abs(ours)
+    )
 
 
 def fault_of_size(table: Table, places: list[tuple[int, ...]]) -> str | None:
@@ -2408,23 +2525,29 @@ def check_passed(report: Report, table: Table, facts: dict[str, Any]) -> None:
 
 class Numbered(NamedTuple):
     """A line of tables/blocks.csv: the number of a block, its row (as a spreadsheet counts it; 0
-    where it was added), and its shell as a factor in thousandths, 0 where it has none."""
+    where it was added), and its shell as a factor in thousandths, None where the cell is empty."""
 
     block: str
     row: int
-    shell: int
+    shell: Decimal | None
 
 
 def numbering() -> list[Numbered]:
     """tables/blocks.csv."""
-    return [
+    found = [
         Numbered(
             line.word("block"),
             line.whole("row"),
-            round(line.number("shell") * THOUSAND) if line.word("shell") else 0,
+            line.exact("shell") * THOUSAND if line.word("shell") else None,
         )
-        for line in read_table("blocks.csv")
+        for line in read_table("blocks.csv", Numbered._fields)
     ]
+    for n, line in enumerate(found, 2):
+        if line.row < 2 and line.row:
+            raise Bad(
+                f"tables/blocks.csv, line {n} has a row that is neither 0 nor below the header"
+            )
+    return found
 
 
 def check_amounts(
@@ -2515,15 +2638,27 @@ def is_placed(table: Table, row: int, place: tuple[int, ...], facts: dict[str, A
 
 
 class Part:
-    """What some blocks of a pit that go one way add up to: tonnes of ore, of each metal these times
-    their grade, and what is recovered."""
+    """What some blocks of a pit, of one way or class, add up to: tonnes of rock and of ore, of each
+    metal the ore times its grade, and what is recovered."""
 
     def __init__(self) -> None:
-        self.ore = 0.0
+        self.rock, self.ore = 0.0, 0.0
         self.graded, self.metal = defaultdict[str, float](float), defaultdict[str, float](float)
+
+    def add(self, tonnes: float, worked: Worked | None, number: int) -> None:
+        """Counts a block in that goes the way of that number, 0 where it is waste."""
+        self.rock += tonnes
+        if not number:
+            return
+        self.ore += worked.ore if worked else tonnes
+        if worked:
+            for name, units in worked.ways[number - 1].metals.items():
+                self.graded[name] += worked.grades[name] * worked.ore
+                self.metal[name] += units
 
     def join(self, other: Part) -> None:
         """Counts in what others add up to."""
+        self.rock += other.rock
         self.ore += other.ore
         for name in other.graded:
             self.graded[name] += other.graded[name]
@@ -2534,13 +2669,49 @@ class Part:
         return {f"grade_{name}": self.graded[name] for name in metals}
 
 
+class Kinds(NamedTuple):
+    """What the tables tell apart: the ways to treat blocks, metals, and resource classes."""
+
+    ways: list[Treatment]
+    metals: list[str]
+    classes: list[str]
+
+    @classmethod
+    def of(cls, of_rows: OfRows | None) -> Kinds:
+        """By study.toml, and of classes by what the planner's table says."""
+        economics, classes = economics_of(), of_rows.classes if of_rows else None
+        metals = [metal["name"] for metal in economics["metals"]]
+        return cls(treatments_of(economics), metals, sorted(set(classes or ())))
+
+    def known(self, *own: str) -> set[str]:
+        """The columns of a table that has these, with those of its amounts: no other is read."""
+        parts = {"": ["ore_t"]}
+        if len(self.ways) > 1:
+            parts |= {f"process_{way.name}_": ["ore_t", "feed_t"] for way in self.ways}
+        parts |= {f"class_{name}_": ["ore_t", "rock_t"] for name in self.classes}
+        by_metal = [f"{kind}_{metal}" for metal in self.metals for kind in ("grade", "metal")]
+        amounts = {before + name for before, each in parts.items() for name in (*each, *by_metal)}
+        return {*own, *amounts, "blocks", "rock_t", "waste_t"}
+
+
 class Sum:
-    """What some blocks of a pit add up to, at the full price: all, and by the number of the way
-    that they go."""
+    """What some blocks of a pit add up to, at the full price: all, by the number of the way that they
+    go, and by resource class.
+
+    Attributes
+    ----------
+    size : int
+        What they are worth without signs, in billionths.
+    depth : int
+        Through how many sums of floats each amount has gone at most: each may err by FLOAT of it.
+    rounded : float
+        Tonnes by which the rounding in mine.blocks may be off, where the table isn't known.
+    """
 
     def __init__(self) -> None:
-        self.blocks, self.worth, self.rock = 0, 0, 0.0
-        self.ways = defaultdict[int, Part](Part)
+        self.blocks, self.worth, self.size, self.rock = 0, 0, 0, 0.0
+        self.depth, self.rounded = 0, 0.0
+        self.ways, self.classes = defaultdict[int, Part](Part), defaultdict[str, Part](Part)
 
     @property
     def all(self) -> Part:
@@ -2559,89 +2730,108 @@ class Sum:
         """The feed that each way gets."""
         return [self.ways[number].ore * way.feed for number, way in enumerate(ways, 1)]
 
-    def add(self, blocks: Blocks, b: int, worked: Worked | None) -> None:
+    def add(self, blocks: Blocks, b: int, of_rows: OfRows | None) -> None:
         """Counts a block in."""
-        self.blocks, self.worth, self.rock = (
-            self.blocks + 1,
-            self.worth + blocks.worth(b, THOUSAND),
-            self.rock + blocks.tonnes[b],
-        )
-        number = blocks.way(b, THOUSAND)
-        if not number:
-            return
-        part = self.ways[number]
-        share = worked.ore / worked.tonnes if worked and worked.tonnes else 1.0
-        part.ore += blocks.tonnes[b] * share
-        if worked:
-            for name, units in worked.ways[number - 1].metals.items():
-                part.graded[name] += worked.grades[name] * worked.ore
-                part.metal[name] += units
+        worth, number = blocks.worth(b, THOUSAND), blocks.way(b, THOUSAND)
+        worked, tonnes = None, blocks.tonnes[b]
+        if of_rows:
+            worked, tonnes = of_rows.worked[b], of_rows.tonnes[b]
+        self.blocks, self.depth = self.blocks + 1, self.depth + 1
+        self.worth, self.size = self.worth + worth, self.size + abs(worth)
+        self.rock += tonnes
+        self.rounded += 0.0 if of_rows else HALF_OF_TONNES
+        parts = [self.ways[number]] if number else []
+        parts += [self.classes[of_rows.classes[b]]] if of_rows and of_rows.classes else []
+        for part in parts:
+            part.add(tonnes, worked, number)
 
     def join(self, other: Sum) -> None:
         """Counts in what others add up to."""
-        self.blocks, self.worth, self.rock = (
-            self.blocks + other.blocks,
-            self.worth + other.worth,
-            self.rock + other.rock,
-        )
+        self.blocks, self.depth = self.blocks + other.blocks, max(self.depth, other.depth) + 1
+        self.worth, self.size = self.worth + other.worth, self.size + other.size
+        self.rock, self.rounded = self.rock + other.rock, self.rounded + other.rounded
         for number, part in other.ways.items():
             self.ways[number].join(part)
+        for name, part in other.classes.items():
+            self.classes[name].join(part)
 
-    def is_line(self, line: Line, is_pit: bool, ways: list[Treatment], metals: list[str]) -> bool:
-        """Whether a line of a table, of a pit or of a bench, has these blocks, tonnes and worth, of
-        these metals the amounts and the grades, of a pit the feed and the strip ratio, and of
-        several processes what goes to each. `mine.blocks` has tonnes to three decimals.
+    @property
+    def left(self) -> float:
+        """Which share of an amount, without signs, two sums of it in floats may be apart: each block's
+        own by LEFT, and each of the two sums by FLOAT for each step."""
+        return LEFT + 2 * self.depth * FLOAT
+
+    def is_worth(self, number: float, less: int = 0) -> bool:
+        """Whether a cell is what the blocks are worth, less a fixed cost: whole numbers of millionths,
+        which were added up as floats."""
+        off = 2 * (self.depth + 4) * FLOAT * (self.size / NANO + less)
+        return is_close(number, self.worth / NANO - less, off)
+
+    def is_line(self, line: Line, is_pit: bool, of: Kinds) -> bool:
+        """Whether a line of a table has these blocks, tonnes, metals and grades, what goes to each of
+        several processes and what is of each class; of a pit the feed and the strip ratio too.
         """
-        off, found = 6e-4 * self.blocks, self.all
-        feed, most = sum(self.fed(ways)), max(way.feed for way in ways)
+        found, feed = self.all, sum(self.fed(of.ways))
         sums = {
-            "rock_t": (self.rock, off),
-            "waste_t": (self.rock - found.ore, 2 * off),
-            **({} if is_pit else {"worth": (self.worth / NANO, 1e-3)}),
-            **({"feed_t": (feed, off * most)} if is_pit else {}),
+            "rock_t": (self.rock, self.rock),
+            "waste_t": (self.rock - found.ore, self.rock + found.ore),
+            **({"feed_t": (feed, feed)} if is_pit else {}),
         }
         if (
-            not all(is_close(line.number(name), *of) for name, of in sums.items())
+            not all(self.is_so(line, name, *each) for name, each in sums.items())
             or line.whole("blocks") != self.blocks
-            or is_pit
-            and line.number("worth_at_base") != self.worth / NANO
         ):
             return False
         strip = {"strip": self.rock - found.ore} if is_pit else {}
-        return self.has_part(line, found, "", (metals, strip)) and (
-            len(ways) == 1
-            or all(
-                self.has_part(line, self.ways[number], f"process_{way.name}_", (metals, {}))
-                and is_close(line.number(f"process_{way.name}_feed_t"), fed, off * most)
-                for (number, way), fed in zip(enumerate(ways, 1), self.fed(ways))
+        return (
+            self.has_part(line, found, "", (of.metals, strip))
+            and (len(of.ways) == 1 or self.has_ways(line, of))
+            and all(
+                self.has_part(line, self.classes[name], f"class_{name}_", (of.metals, {}))
+                and self.is_so(line, f"class_{name}_rock_t", *[self.classes[name].rock] * 2)
+                for name in of.classes
             )
         )
+
+    def has_ways(self, line: Line, of: Kinds) -> bool:
+        """Whether a line has what goes each of several ways."""
+        return all(
+            self.has_part(line, self.ways[number], f"process_{way.name}_", (of.metals, {}))
+            and self.is_so(line, f"process_{way.name}_feed_t", fed, fed)
+            for (number, way), fed in zip(enumerate(of.ways, 1), self.fed(of.ways))
+        )
+
+    def is_so(self, line: Line, column: str, value: float, size: float) -> bool:
+        """Whether a cell is an amount of tonnes or metal, of parts of that size without signs."""
+        return is_close(line.number(column), value, self.left * size + 2 * self.rounded)
 
     def has_part(
         self, line: Line, part: Part, before: str, of: tuple[list[str], dict[str, float]]
     ) -> bool:
         """Whether a line has the ore, the metals and the grades of what goes one way, in columns
         that begin so, and what else is told by tonnes of ore."""
-        off, (metals, more) = 6e-4 * self.blocks, of
-        sums = {"ore_t": (part.ore, off)} | {f"metal_{it}": (part.metal[it], 0.0) for it in metals}
-        if not all(is_close(line.number(before + it), *found) for it, found in sums.items()):
+        metals, more = of
+        sums = {"ore_t": part.ore} | {f"metal_{name}": part.metal[name] for name in metals}
+        if not all(self.is_so(line, before + it, value, value) for it, value in sums.items()):
             return False
         by_ore = part.by_ore(metals) | more
         if not part.ore:
             return all(line.word(before + name) == "" for name in by_ore)
         return all(
-            is_close(
-                line.number(before + name),
-                value / part.ore,
-                3 * off * (1 + (self.rock + value) / part.ore) / part.ore,
-            )
+            is_close(line.number(before + name), value / part.ore, self.off(name, value, part.ore))
             for name, value in by_ore.items()
         )
 
+    def off(self, name: str, value: float, ore: float) -> float:
+        """How far a ratio to tonnes of ore may be off: as far as what is divided and the ore are."""
+        parts = 2 * self.rock if name == "strip" else value
+        return (self.left * (parts + value) + 2 * self.rounded * (1 + value / ore)) / ore
+
 
 def is_close(number: float, value: float, far: float) -> bool:
-    """Whether a number is no further off than that, except for how numbers are rounded."""
-    return math.isclose(number, value, rel_tol=1e-9, abs_tol=far)
+    """Whether a cell is a value from which arithmetic may be so far off, and which is written with
+    15 digits: half a unit of the last of these, and no more."""
+    return abs(number - value) <= far + HALF_A_DIGIT * abs(value)
 
 
 class Line(NamedTuple):
@@ -2683,8 +2873,9 @@ class Line(NamedTuple):
         return int(cell)
 
 
-def read_table(name: str) -> list[Line]:
-    """The lines of a table of the bundle."""
+def read_table(name: str, known: Collection[str]) -> list[Line]:
+    """The lines of a table of the bundle, which has none but known columns: any other would be read by
+    people alone."""
     path, found = f"tables/{name}", list[Line]()
     try:
         with open(within(path), newline="", encoding="utf-8") as file:
@@ -2693,6 +2884,9 @@ def read_table(name: str) -> list[Line]:
             twice = [shown(column) for column, n in Counter(names).items() if n > 1]
             if twice:
                 raise Bad(f"{path} has the column {twice[0]} twice")
+            strange = [shown(column) for column in names if column not in known]
+            if strange:
+                raise Bad(f"{path} has the column {strange[0]}, which no check reads")
             for n, row in enumerate(rows, 2):
                 if len(row) > len(names):
                     raise Bad(f"{path}, line {n} has more cells than there are columns")
@@ -2702,17 +2896,20 @@ def read_table(name: str) -> list[Line]:
     return found
 
 
+Benches = dict[tuple[float, int], Sum]  # by the bench's elevation and the shell's factor
+
+
 def bench_sums(
-    blocks: Blocks, facts: dict[str, Any], shell: list[int], worked: list[Worked | None] | None
-) -> dict[tuple[float, int], Sum]:
-    """What each shell has on each bench, by the bench's elevation and the shell's factor."""
-    found = dict[tuple[float, int], Sum]()
+    blocks: Blocks, facts: dict[str, Any], shell: list[int], of_rows: OfRows | None
+) -> Benches:
+    """What each shell has on each bench."""
+    sums: Benches = {}
     lowest, height = facts["grid"]["origin"][2], facts["grid"]["size"][2]
     for b, factor in enumerate(shell):
         if factor:
-            key = (round(lowest + blocks.places[b][2] * height, 3), factor)
-            found.setdefault(key, Sum()).add(blocks, b, worked[b] if worked else None)
-    return found
+            key = (lowest + blocks.places[b][2] * height, factor)
+            sums.setdefault(key, Sum()).add(blocks, b, of_rows)
+    return sums
 
 
 def check_tables(
@@ -2720,54 +2917,141 @@ def check_tables(
     blocks: Blocks,
     facts: dict[str, Any],
     shell: list[int],
-    worked: list[Worked | None] | None,
+    of_rows: OfRows | None,
 ) -> None:
     """The tables say what the certificates do, and of metals what the planner's table does."""
     lines_of = numbering()
     is_counted = [line.block for line in lines_of] == [str(b) for b in range(len(shell))]
-    bad = [n for n, (ours, line) in enumerate(zip(shell, lines_of), 2) if ours != line.shell]
+    bad = [
+        n for n, (ours, line) in enumerate(zip(shell, lines_of), 2) if (ours or None) != line.shell
+    ]
     report.check(
         is_counted and not bad,
         "tables/blocks.csv has the number and the shell of each block"
         + (f": not so in line {bad[0]}" if bad else ""),
     )
-    verdicts, benches = verdicts_of(), bench_sums(blocks, facts, shell, worked)
-    pits = {verdict["factor"]: Sum() for verdict in verdicts}
-    for (_, factor), part in benches.items():
-        for larger, found in pits.items():
-            if larger >= factor:
-                found.join(part)
-    economics = economics_of()
-    metals = [metal["name"] for metal in economics["metals"]] if worked else []
-    ways = treatments_of(economics)
-    lines = read_table("pit_by_pit.csv")
-    bad = [
-        n
-        for n, (line, verdict) in enumerate(zip(lines, verdicts), 2)
-        if round(line.number("factor") * THOUSAND) != verdict["factor"]
-        or line.exact("worth_at_factor") != Decimal(verdict["worth"])
-        or not pits[verdict["factor"]].is_line(line, True, ways, metals)
-    ]
-    of = ", the grades and the metals" if worked else ""
+    benches, of = bench_sums(blocks, facts, shell, of_rows), Kinds.of(of_rows)
+    check_pit_by_pit(report, benches, of, of_rows is not None)
+    check_benches(report, benches, of, of_rows is not None)
+
+
+def check_pit_by_pit(report: Report, benches: Benches, of: Kinds, is_whole: bool) -> None:
+    """tables/pit_by_pit.csv. Metals, classes and what hangs on tonnes are told by the planner's table,
+    where that was read."""
+    verdicts, rates = verdicts_of(), Rates.of(benches, of.ways)
+    known = of.known(*PIT_BY_PIT)
+    of = of if is_whole else of._replace(metals=[])
+    lines, bad = read_table("pit_by_pit.csv", known), list[int]()
+    for n, (line, verdict) in enumerate(zip(lines, verdicts), 2):
+        pit = {key: part for key, part in benches.items() if key[1] <= verdict["factor"]}
+        total = Sum()
+        for part in pit.values():
+            total.join(part)
+        if not (
+            line.exact("factor") * THOUSAND == verdict["factor"]
+            and line.exact("worth_at_factor") == Decimal(verdict["worth"])
+            and is_close(line.number("worth_at_base"), total.worth / NANO, 0.0)
+            and total.is_line(line, True, of)
+            and (not is_whole or rates.is_line(line, pit, of.ways))
+        ):
+            bad.append(n)
+    more = ", the years, the grades and the metals" if is_whole else ""
     report.check(
         len(lines) == len(verdicts) and not bad,
-        f"tables/pit_by_pit.csv has the blocks, the tonnes, the worths{of} of each pit"
+        f"tables/pit_by_pit.csv has the blocks, the tonnes, the worths{more} of each pit"
         + (f": not so in line {bad[0]}" if bad else ""),
     )
-    lines = read_table("benches.csv")
-    keys = [
-        (round(line.number("bench"), 3), round(line.number("shell") * THOUSAND)) for line in lines
-    ]
-    bad = [
-        n
-        for n, (key, line) in enumerate(zip(keys, lines), 2)
-        if key not in benches or not benches[key].is_line(line, False, ways, metals)
-    ]
+
+
+def check_benches(report: Report, benches: Benches, of: Kinds, is_whole: bool) -> None:
+    """tables/benches.csv, likewise."""
+    known = of.known("bench", "shell", "worth")
+    of = of if is_whole else of._replace(metals=[])
+    rounded = {(round(bench, 3), factor): (bench, factor) for bench, factor in benches}
+    lines = read_table("benches.csv", known)
+    keys = [(round(line.number("bench"), 3), int(line.exact("shell") * THOUSAND)) for line in lines]
+    bad = []
+    for n, (key, line) in enumerate(zip(keys, lines), 2):
+        place = rounded.get(key)
+        if not (
+            place
+            and is_close(line.number("bench"), place[0], LEFT * far_from(place[0]))
+            and line.exact("shell") * THOUSAND == place[1]
+            and benches[place].is_worth(line.number("worth"))
+            and benches[place].is_line(line, False, of)
+        ):
+            bad.append(n)
+    more = ", the grades and the metals" if is_whole else ""
     report.check(
-        sorted(keys) == sorted(benches) and not bad,
-        f"tables/benches.csv has the blocks, the tonnes, the worth{of} of each bench and shell"
+        sorted(keys) == sorted(rounded) and not bad,
+        f"tables/benches.csv has the blocks, the tonnes, the worth{more} of each bench and shell"
         + (f": not so in line {bad[0]}" if bad else ""),
     )
+
+
+def far_from(elevation: float) -> float:
+    """How large the numbers are of which an elevation was made."""
+    return abs(elevation) + 2 * abs(float(facts_of()["grid"]["origin"][2]))
+
+
+# --- Years and discounted worths of a pit: two simple orders, at the rates of study.toml ---
+
+
+class Rates(NamedTuple):
+    """Tonnes of rock, and of the feed of each way, in a year, and the discount of a year."""
+
+    mining: float
+    feeds: list[float]
+    discount: float
+
+    @classmethod
+    def of(cls, benches: Benches, ways: list[Treatment]) -> Rates:
+        """Those of [shells] and of the processes; else what takes YEARS for the largest pit."""
+        shells = study_of("shells", "mining_rate", "mill_rate", "discount")
+        processes = economics_of().get("processes")
+        told = [shells.get("mining_rate"), shells.get("mill_rate")]
+        if processes is not None:
+            told[1:] = [process.get("rate") for process in processes]
+        total = Sum()
+        for part in benches.values():
+            total.join(part)
+        amounts = [total.rock, *total.fed(ways)]
+        mining, *feeds = (
+            float(rate or max(amount / YEARS, 1.0)) for rate, amount in zip(told, amounts)
+        )
+        return cls(mining, feeds, float(shells.get("discount", 0.1)))
+
+    def worked(self, pieces: list[Sum], ways: list[Treatment]) -> tuple[float, float]:
+        """The worth of pieces that are dug one after the other, each as quickly as digging and each
+        way allow, discounted to the middle of its time; and how many years all of them take."""
+        worth, end = 0.0, 0.0
+        for piece in pieces:
+            fed = zip(piece.fed(ways), self.feeds)
+            takes = max(piece.rock / self.mining, *(feed / rate for feed, rate in fed))
+            end += takes
+            # a power that is too large for a float discounts to nothing
+            share = math.exp(-math.log1p(self.discount) * (end - takes / 2))
+            worth += piece.worth / NANO * share
+        return worth, end
+
+    def is_line(self, line: Line, pit: Benches, ways: list[Treatment]) -> bool:
+        """Whether a line has what a pit is worth dug shell by shell and bench by bench, from the top,
+        and the years of the first."""
+        best = [pit[key] for key in sorted(pit, key=lambda key: (key[1], -key[0]))]
+        by_bench = dict[float, Sum]()
+        for bench, factor in sorted(pit, reverse=True):
+            by_bench.setdefault(bench, Sum()).join(pit[bench, factor])
+        npv, years = self.worked(best, ways)
+        worst, _ = self.worked([*by_bench.values()], ways)
+        # each sum of a piece, and each of the pieces; what times are off by is discounted
+        left = max((each.left for each in by_bench.values()), default=LEFT) + 2 * len(pit) * FLOAT
+        size = sum(each.size for each in best) / NANO
+        off = left * size * (2 + math.log1p(self.discount) * years)
+        return (
+            is_close(line.number("npv_best"), npv, off)
+            and is_close(line.number("npv_worst"), worst, off)
+            and is_close(line.number("years"), years, 2 * left * years)
+        )
 
 
 # --- Slopes: no pit breaks them, and their offsets are those of the angles asked for ---
@@ -3261,7 +3545,7 @@ def check_all(report: Report, pit: str, is_plain: bool) -> None:
             blocks,
             facts,
             shell,
-            found.worked if found else None,
+            found,
         )
 
 

@@ -66,6 +66,9 @@ FULL = 0.995  # of a rate, from which on it is said to bind, whatever still fits
 WHEN = {"start": Decimal(0), "mid": Decimal("0.5"), "end": Decimal(1)}
 CUTOFFS = ("fixed", "by year")
 TERMS = recheck.STUDY["schedule"]
+# The keys of schedule/periods.toml and schedule/terms.json.
+OF_PERIODS = ("weights", "resources", "capacities", "multipliers", "waits", "lag")
+OF_TERMS = ("sink", "lag", "pushbacks", "lead", "fixed_cost")
 LINE = re.compile(rb"[A-Z0-9-]+(?: [A-Z0-9-]+)*")  # of a text that pit reads, but for those in TOML
 Rows = list[list[int]]  # of each block or unit those that it rests on
 
@@ -171,7 +174,23 @@ def text_in(name: str) -> str:
 def stated_periods() -> dict[str, Any]:
     """What schedule/periods.toml says."""
     text_in("schedule/periods.toml")  # of no other size
-    return recheck.toml_as_written("schedule/periods.toml")
+    found = recheck.toml_as_written("schedule/periods.toml")
+    need_known("periods.toml", found, OF_PERIODS)
+    return found
+
+
+def stated_terms() -> dict[str, Any]:
+    """What schedule/terms.json says."""
+    found = recheck.of_json(text_in("schedule/terms.json"), "schedule/terms.json")
+    need(isinstance(found, dict), "terms.json isn't a table")
+    need_known("terms.json", found, OF_TERMS)
+    return dict(found)
+
+
+def need_known(name: str, values: dict[str, Any], known: tuple[str, ...]) -> None:
+    """Ends the check where a table has a key that nothing reads."""
+    strange = [recheck.shown(key) for key in values if key not in known]
+    need(not strange, f"{name} has {', '.join(strange)}, which pitplan writes into no such file")
 
 
 def is_whole(value: Any) -> bool:
@@ -195,8 +214,7 @@ def read_mine() -> Mine:
 
 def read_periods(mine: Mine) -> Periods:
     """What schedule/ says of the periods, each number in its range."""
-    stated = stated_periods()
-    terms = recheck.of_json(text_in("schedule/terms.json"), "schedule/terms.json")
+    stated, terms = stated_periods(), stated_terms()
     weights, count = stated["weights"], len(stated["weights"])
     resources = 1 + len(mine.blocks.amounts[0].ways)
     need(all(map(is_whole, weights)), "a weight isn't a whole number")
@@ -213,6 +231,8 @@ def read_periods(mine: Mine) -> Periods:
     uses: Rows = [[] for _ in range(resources)]
     for number, words in enumerate(words_of("schedule/uses.blocks")):
         need(int(words[0]) == number, "uses.blocks isn't in the order of its blocks")
+        at = tuple(map(int, words[1:4]))
+        need(at == mine.blocks.places[number], f"uses.blocks has block {number} at another place")
         for row, word in zip(uses, words[4 : 4 + resources]):
             row.append(int(word))
     need({len(row) for row in uses} == {len(mine.costs)}, "uses.blocks isn't of this model")
@@ -862,22 +882,23 @@ def resources_of(ways: list[recheck.Treatment]) -> list[str]:
 # --- What blocks use, worked out from the planner's table ---
 
 
-def check_uses(mine: Mine, periods: Periods, worked: list[recheck.Worked | None]) -> None:
+def check_uses(mine: Mine, periods: Periods, rows: recheck.OfRows) -> None:
     """What the pit's blocks use is the nearest to what their rows of the planner's table say: a
     block takes the feed of the process by which it is worth most, and of no other, or where a schedule
     chooses of each by which it gains."""
     ways = recheck.treatments_of(recheck.economics_of())
     for block in periods.unit:
-        row, best, gains = worked[block], mine.ways[block], mine.gains[block]
+        row, best, gains = rows.worked[block], mine.ways[block], mine.gains[block]
         takes = [
             gains[way] > 0 if chooses(periods) else best == way + 1 for way in range(len(ways))
         ]
         fed = [row.ore * way.feed if row and does else 0.0 for way, does in zip(ways, takes)]
-        rock = row.tonnes if row else mine.blocks.tonnes[block]
+        rock = rows.tonnes[block]
         for name, kept, ours in zip(
             resources_of(ways), (uses[block] for uses in periods.uses), [rock, *fed]
         ):
-            off = 0.5 + 1e-6 + 1e-9 * ours * THOUSAND
+            # half a thousandth of a tonne, which uses are counted in
+            off = 0.5 + recheck.LEFT * ours * THOUSAND
             need(
                 abs(kept - ours * THOUSAND) <= off,
                 f"block {block} uses {kept} of {name}, and by the table {ours * THOUSAND:.3f}",
@@ -899,18 +920,19 @@ class Sums(NamedTuple):
         mine: Mine,
         periods: Periods,
         when: dict[int, int],
-        worked: list[recheck.Worked | None],
+        rows: recheck.OfRows,
         grid: Any,
     ) -> Sums:
-        """The elevation of a bench is that of its blocks' centres."""
+        """The elevation of a bench is that of its blocks' centres. No table tells classes apart."""
         found, blocks = cls({}, {}), as_dug(mine, periods)
+        of_rows = rows._replace(classes=None)
         for block, period in when.items():
             if mine.is_rock[block]:
                 bench = grid["origin"][2] + mine.blocks.places[block][2] * grid["size"][2]
-                place = period, round(bench, 3), periods.pushback[block] + 1
+                place = period, bench, periods.pushback[block] + 1
                 of_bench = found.benches.setdefault(place, recheck.Sum())
                 for each in (of_bench, found.periods.setdefault(period, recheck.Sum())):
-                    each.add(blocks, block, worked[block])
+                    each.add(blocks, block, of_rows)
         return found
 
 
@@ -929,31 +951,41 @@ def as_dug(mine: Mine, periods: Periods) -> recheck.Blocks:
     return found
 
 
-def is_line(
-    line: recheck.Line,
-    total: recheck.Sum,
-    metals: list[str],
-    ways: list[recheck.Treatment],
-    fixed: int = 0,
-) -> bool:
+def is_line(line: recheck.Line, total: recheck.Sum, of: recheck.Kinds, fixed: int = 0) -> bool:
     """Whether a line of a table has these blocks, its cash flow less a fixed cost."""
-    worth = str(Decimal(line.word("cash_flow")) + fixed)
-    paid = line._replace(cells={**line.cells, "worth": worth})
-    off = 6e-4 * (1 + total.blocks)
+    feed, waste = sum(total.fed(of.ways)), total.rock - total.ore
     return (
-        total.is_line(paid, False, ways, metals)
-        and recheck.is_close(line.number("feed_t"), sum(total.fed(ways)), 2 * off)
+        total.is_line(line, False, of)
+        and total.is_worth(line.number("cash_flow"), fixed)
+        and total.is_so(line, "feed_t", feed, feed)
         and (
             line.word("strip") == ""
             if not total.ore
-            else math.isclose(
-                line.number("strip"),
-                (total.rock - total.ore) / total.ore,
-                rel_tol=1e-6,
-                abs_tol=1e-9,  # 0 where all is ore, of which each process has a part
+            else recheck.is_close(
+                line.number("strip"), waste / total.ore, total.off("strip", waste, total.ore)
             )
         )
     )
+
+
+AMOUNTS = ("period", "year", "feed_t", "strip", "cash_flow")  # columns of both tables
+
+
+def columns_of(kinds: recheck.Kinds, periods: Periods) -> set[str]:
+    """The columns of tables/schedule.csv."""
+    names = resources_of(kinds.ways)
+    own = ["weight", "discounted", "npv", "binds", "bottom"]
+    own += [used_cell(names, resource) for resource in range(len(names))]
+    own += ["fixed_cost"] if periods.fixed_cost else []
+    if periods.sink is not None:
+        own += ["sink_columns", "sink_x", "sink_y", "sink_bench"]
+    return kinds.known(*AMOUNTS, *own)
+
+
+def used_cell(names: list[str], resource: int) -> str:
+    """The column that has the share of a rate that is used."""
+    is_process = resource and len(names) > 2
+    return f"process_{names[resource]}_used" if is_process else f"{names[resource]}_used"
 
 
 def check_tables(
@@ -961,55 +993,91 @@ def check_tables(
     periods: Periods,
     asked: Asked,
     when: dict[int, int],
-    worked: list[recheck.Worked | None],
+    rows: recheck.OfRows,
 ) -> None:
     """tables/schedule.csv and tables/schedule_benches.csv say what the schedule does."""
-    economics, facts = recheck.economics_of(), recheck.facts_of()
-    metals = [metal["name"] for metal in economics["metals"]]
-    ways = recheck.treatments_of(economics)
-    sums, npv = Sums.of(mine, periods, when, worked, facts["grid"]), 0.0
+    kinds = recheck.Kinds.of(rows)._replace(classes=[])
+    sums = Sums.of(mine, periods, when, rows, recheck.facts_of()["grid"])
+    check_years(mine, periods, asked, when, (kinds, sums))
+    check_benches(periods, asked, kinds, sums)
+
+
+def check_years(
+    mine: Mine,
+    periods: Periods,
+    asked: Asked,
+    when: dict[int, int],
+    of: tuple[recheck.Kinds, Sums],
+) -> None:
+    """tables/schedule.csv: a line for each period."""
+    (kinds, sums), grid = of, recheck.facts_of()["grid"]
     lagged = sinking(mine, periods)
     kept = kept_by_sink(mine, periods, lagged, when)
     full = full_rates(mine, periods, lagged, when, asked)
-    lines = recheck.read_table("schedule.csv")
+    lines = recheck.read_table("schedule.csv", columns_of(kinds, periods))
     need(len(lines) == max(when.values()) + 1, "tables/schedule.csv hasn't a line for each period")
+    npv, off = 0.0, 0.0
     for t, line in enumerate(lines):
         what = f"tables/schedule.csv, line {line.at}, isn't what period {t + 1} comes to"
         found = sums.periods.get(t, recheck.Sum())
         need((line.whole("period"), line.whole("year")) == (t + 1, t // asked.per_year + 1), what)
         fixed = periods.fixed_cost if found.rock else 0
-        need(is_line(line, found, metals, ways, fixed), what)
-        flow, weight = found.worth / recheck.NANO - fixed, periods.weights[t] / MILLION
-        npv += flow * weight
-        for name, ours in (("weight", weight), ("discounted", flow * weight), ("npv", npv)):
-            need(recheck.is_close(line.number(name), ours, 1e-3), f"{what}: {name}")
-        is_sunk = periods.sink is not None and check_sink(
-            line, what, kept.get(t, []), facts["grid"]
+        need(is_line(line, found, kinds, fixed), what)
+        if periods.fixed_cost:
+            need(line.exact("fixed_cost") == fixed, f"{what}: fixed_cost")
+        weight = periods.weights[t] / MILLION
+        need(line.exact("weight") == Decimal(periods.weights[t]) / MILLION, f"{what}: weight")
+        paid = (found.worth / recheck.NANO - fixed) * weight
+        # as far as the cash flow may be off, and the sum of all so far
+        one = recheck.FLOAT * (found.size / recheck.NANO + fixed) * 2 * (found.depth + 8)
+        npv, off = npv + paid, off + one + recheck.FLOAT * 2 * len(lines) * abs(paid)
+        need(recheck.is_close(line.number("discounted"), paid, one), f"{what}: discounted")
+        need(recheck.is_close(line.number("npv"), npv, off), f"{what}: npv")
+        is_sunk = periods.sink is not None and check_sink(line, what, kept.get(t, []), grid)
+        names, tonnes = resources_of(kinds.ways), [found.rock, *found.fed(kinds.ways)]
+        used = [(used_cell(names, r), tonnes[r], (r, t) in full) for r in range(len(names))]
+        need(
+            line.word("binds")
+            == "; ".join(
+                binding(line, what, asked, (t, found.left), used, names) + ["sink"] * is_sunk
+            ),
+            f"{what}: binds",
         )
-        names, tonnes = resources_of(ways), [found.rock, *found.fed(ways)]
-        used = [(name, tonnes[r], (r, t) in full) for r, name in enumerate(names)]
-        check_binding(line, what, asked, t, used, is_sunk)
         dug = [bench for period, bench, _ in sums.benches if period == t]
-        toe = min(dug) - facts["grid"]["size"][2] / 2 if dug else None
+        toe = min(dug) - grid["size"][2] / 2 if dug else None
         need(is_bottom(line.word("bottom"), toe), f"{what}: bottom")
-    benches = dict[tuple[int, float, int], recheck.Line]()
-    for line in recheck.read_table("schedule_benches.csv"):
-        pushback = line.whole("pushback") if asked.terms.get("pushbacks") else 1
-        place = line.whole("period") - 1, round(line.number("bench"), 3), pushback
-        need(place not in benches, f"{line.file}, line {line.at}, is a second one of its bench")
-        benches[place] = line
-    need(set(benches) == set(sums.benches), "tables/schedule_benches.csv has other benches")
-    for place, line in benches.items():
+
+
+def check_benches(periods: Periods, asked: Asked, kinds: recheck.Kinds, sums: Sums) -> None:
+    """tables/schedule_benches.csv: a line for each period, bench and pushback."""
+    has_pushbacks = bool(asked.terms.get("pushbacks"))
+    known = kinds.known(*AMOUNTS, "bench", *(["pushback"] if has_pushbacks else []))
+    rounded = {(t, round(bench, 3), n): (t, bench, n) for t, bench, n in sums.benches}
+    lines = dict[tuple[int, float, int], recheck.Line]()
+    for line in recheck.read_table("schedule_benches.csv", known):
+        pushback = line.whole("pushback") if has_pushbacks else 1
+        key = line.whole("period") - 1, round(line.number("bench"), 3), pushback
+        need(key not in lines, f"{line.file}, line {line.at}, is a second one of its bench")
+        lines[key] = line
+    need(set(lines) == set(rounded), "tables/schedule_benches.csv has other benches")
+    for key, line in lines.items():
+        place = rounded[key]
         what = f"tables/schedule_benches.csv, line {line.at}, isn't what its blocks come to"
         need(line.whole("year") == place[0] // asked.per_year + 1, what)
-        need(is_line(line, sums.benches[place], metals, ways), what)
+        need(is_elevation(line.number("bench"), place[1]), f"{what}: bench")
+        need(is_line(line, sums.benches[place], kinds), what)
+
+
+def is_elevation(number: float, ours: float) -> bool:
+    """Whether a cell is an elevation, as nearly as arithmetic comes to it."""
+    return recheck.is_close(number, ours, recheck.LEFT * recheck.far_from(ours))
 
 
 def is_bottom(word: str, toe: float | None) -> bool:
     """Whether a cell says how deep a period comes; of one in which no rock is dug it is empty."""
     if toe is None or not word:
         return toe is None and not word
-    return recheck.is_close(float(word), toe, 1e-3)
+    return recheck.NUMBER.fullmatch(word) is not None and is_elevation(float(word), toe)
 
 
 def check_sink(line: recheck.Line, what: str, kept: list[tuple[int, ...]], grid: Any) -> bool:
@@ -1024,10 +1092,17 @@ def check_sink(line: recheck.Line, what: str, kept: list[tuple[int, ...]], grid:
     low = min(z for _, _, z in kept)
     at = [line.number(cell) for cell in cells]
     need(
-        any(math.dist(at, world(place, grid)) < 1e-3 for place in kept if place[2] == low),
+        any(is_place(at, world(place, grid)) for place in kept if place[2] == low),
         f"{what}: sink_bench",
     )
     return True
+
+
+def is_place(at: list[float], ours: tuple[float, float, float]) -> bool:
+    """Whether three cells are a place, as nearly as arithmetic comes to it: sums of coordinates none
+    of which is larger than the largest of the place and of the grid's origin."""
+    far = sum(map(abs, (*ours, *recheck.facts_of()["grid"]["origin"])))
+    return all(recheck.is_close(cell, one, recheck.LEFT * far) for cell, one in zip(at, ours))
 
 
 def world(place: tuple[int, ...], grid: Any) -> tuple[float, float, float]:
@@ -1042,29 +1117,34 @@ def world(place: tuple[int, ...], grid: Any) -> tuple[float, float, float]:
     )
 
 
-def check_binding(
+def binding(
     line: recheck.Line,
     what: str,
     asked: Asked,
-    period: int,
+    of: tuple[int, float],
     used: list[tuple[str, float, bool]],
-    is_sunk: bool,
-) -> None:
-    """The shares of the rates that a line says a period uses, and which rates it says bind, the sink
-    rate among them: those of which FULL is used, or that are full as far as whole units fill them.
+    names: list[str],
+) -> list[str]:
+    """The rates that bind in a period: those of which FULL is used, or that are full as far as whole
+    units fill them. The shares that a line says it uses are these.
+
+    Parameters
+    ----------
+    of : int and float
+        The period, and which share of its tonnes arithmetic may leave.
+    used : list of tuples
+        Of each rate the column, the tonnes, and whether it is full.
     """
-    binds = []
-    for resource, (name, tonnes, is_full) in enumerate(used):
-        cell = f"process_{name}_used" if resource and len(used) > 2 else f"{name}_used"
+    (period, left), binds = of, list[str]()
+    for resource, (cell, tonnes, is_full) in enumerate(used):
         room = asked.room(resource, period) if asked.rates[resource] else 0
         if not room:
             need(line.word(cell) == "", f"{what}: {cell}")
             continue
         share = tonnes * THOUSAND / room
-        need(recheck.is_close(line.number(cell), share, 1e-6 * (1 + share)), f"{what}: {cell}")
-        binds += [name] if is_full or line.number(cell) >= FULL else []
-    binds += ["sink"] if is_sunk else []
-    need(line.word("binds") == "; ".join(binds), f"{what}: binds")
+        need(recheck.is_close(line.number(cell), share, left * share), f"{what}: {cell}")
+        binds += [names[resource]] if is_full or line.number(cell) >= FULL else []
+    return binds
 
 
 # --- All checks, in their order ---
@@ -1083,10 +1163,11 @@ def main() -> int:
         need(npv <= bound, f"the schedule is worth {npv:,f}, and its bound is {bound:,f}")
         asked = Asked.read()
         check_terms(mine, periods, asked)
-        found = recheck.check_table(Quiet(), mine.blocks, recheck.facts_of())
-        worked = found.worked if found else []
-        check_uses(mine, periods, worked)
-        check_tables(mine, periods, asked, when, worked)
+        rows = recheck.check_table(Quiet(), mine.blocks, recheck.facts_of())
+        need(rows is not None, "the rows of the table aren't the blocks")
+        assert rows is not None
+        check_uses(mine, periods, rows)
+        check_tables(mine, periods, asked, when, rows)
     except (
         *(Wrong, recheck.Bad, OSError, EOFError, zlib.error, AttributeError),
         *(

@@ -899,7 +899,7 @@ STRANGE = {
     ),
     "a column of the pits": (
         cell_of("tables/pit_by_pit.csv", 0, 2, "rock"),
-        "tables/pit_by_pit.csv, line 2 has no cell of column rock_t",
+        "tables/pit_by_pit.csv has the column 'rock', which no check reads",
     ),
     "a bench": (
         cell_of("tables/benches.csv", 1, 0, ""),

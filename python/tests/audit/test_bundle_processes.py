@@ -104,7 +104,7 @@ def one_way(folder):
         (of_toml('rocks = ["OXI"]', ""), "what each block brings and costs"),
         (of_toml("mining_recovery = 0.95", ""), "what each block brings and costs"),
         (of_toml('"3.0 + 0.002', '"3.1 + 0.002'), "what each block brings and costs"),
-        (of_toml('name = "leach"', 'name = "heap"'), "process_heap_"),
+        (of_toml('name = "leach"', 'name = "heap"'), "has the column 'process_leach_ore_t', which"),
         (of_toml("mining = 2.0", "mining = 2.0\nprocessing = 9"), "processing beside them"),
         (of_model(lambda row: [*row[:7], row[5], *row[8:]]), "what each block brings and costs"),
         (of_model(lambda row: [*row[:4], *row[6:8], *row[4:6], *row[8:]]), "brings and costs"),

@@ -74,6 +74,8 @@ def resealed(folder):
     for name in ("mine.blocks", "settings.toml"):
         digest = hashlib.sha256((folder / "model" / name).read_bytes()).hexdigest()
         manifest["files"][name] = digest
+    both = "".join(manifest["files"][name] for name in ("mine.blocks", "settings.toml"))
+    manifest["key"] = hashlib.sha256(both.encode()).hexdigest()
     table = hashlib.sha256((folder / facts["table"]).read_bytes()).hexdigest()
     facts["sha256"] = manifest["source"]["sha256"] = table
     (folder / "model" / "manifest.json").write_text(json.dumps(manifest))
