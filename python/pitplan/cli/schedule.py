@@ -339,7 +339,7 @@ def _warn_of_rest(schedule: Schedule, years: pd.DataFrame) -> None:
     if not left.blocks:
         return
     rock = printed_scale(years["rock_t"], study.model.units.weight)
-    is_full = (years["rock_t"] > 0).sum() == schedule.production.terms.periods
+    is_full = len(years) == schedule.production.terms.periods  # up to the last that digs anything
     warn(
         f"{left.blocks:,} {'block of the pit stays' if left.blocks == 1 else 'blocks of the pit stay'}"
         f" in the ground, {rock.said(left.tonnes)} worth {study.currency} {left.worth:,.0f} undiscounted"
