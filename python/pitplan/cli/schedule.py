@@ -65,6 +65,7 @@ def schedule(
 ) -> None:
     """Plan by years: a schedule of the best pit, its net present value, and a proved bound of all
     schedules. Goes on where it was stopped."""
+    from ..schedule.last_plan import basis_of
     from ..schedule.plan import Schedule
     from ..schedule.search_ends import Limits
     from ..schedule.tables import Tables
@@ -72,12 +73,13 @@ def schedule(
     plan = described(folder)
     shells, rates = shells_of(folder)
     values, limits = plan.values["schedule"], Limits(gap / _PERCENT, minutes * _MINUTE)
-    with _shown(gap / _PERCENT) as listener, _stopped(shells, limits):
+    basis = basis_of(shells.study.key, values, rates)
+    with _shown(gap / _PERCENT) as listener, _stopped(shells, limits, basis):
         found = Schedule.of(shells, values, rates, limits, listener)
     show_schedule(shells.study, found.digest)
     tables = Tables(found, mining_width)
     years = tables.years()
-    _write_facts(found.shells, found.facts)
+    _write_facts(found.shells, found.facts | basis)
     _write_tables(found, tables, years, plan.keys.encoding)
     _draw(found, years)
     _write_page(found, years)
@@ -93,7 +95,7 @@ def _words(found: Found) -> str:
 
 
 @contextmanager
-def _stopped(shells: Shells, limits: Limits) -> Iterator[None]:
+def _stopped(shells: Shells, limits: Limits, basis: Mapping[str, Any]) -> Iterator[None]:
     """After ctrl-C says how far the search is and, where it has a schedule, writes schedule.json;
     then what shows another schedule is put out of the way."""
     from ..schedule.search_ends import STOPPED, End, SearchStopped
@@ -106,7 +108,7 @@ def _stopped(shells: Shells, limits: Limits) -> Iterator[None]:
         if stopped.digest:
             warn(f"its table: {command('schedule', shells.study.named, '--minutes', '0')}")
             show_schedule(shells.study, stopped.digest)
-            _write_facts(shells, stopped.found.facts | end.facts)
+            _write_facts(shells, stopped.found.facts | end.facts | basis)
         raise
 
 
