@@ -139,6 +139,8 @@ def _shown(wanted: float) -> Iterator[Listener]:
         return
     from rich.progress import BarColumn, Progress, TextColumn, TimeElapsedColumn
 
+    from ..schedule.search import Lasting
+
     with Progress(
         TextColumn("{task.description}"),
         BarColumn(),
@@ -151,6 +153,9 @@ def _shown(wanted: float) -> Iterator[Listener]:
 
         def drawn(found: Found, what: str) -> None:
             events.event("step", what=what)
+            if isinstance(what, Lasting):
+                bars.console.print(what, highlight=False)
+                return
             share = min(wanted / found.gap, 1.0) if 0 < found.gap < 1e9 else 0.0
             bars.update(bar, completed=share, description=what, text=_words(found))
 

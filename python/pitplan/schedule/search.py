@@ -13,7 +13,7 @@ from typing import Any, NamedTuple
 
 import numpy as np
 
-from ..base.arrays import Floats, Ints
+from ..base.arrays import Array, Floats, Ints
 from ..base.files import mark
 from ..pit.program import Files, Pit
 from . import highs
@@ -97,6 +97,10 @@ class Found:
 Listener = Callable[[Found, str], None]  # how far it is, and what is done next
 
 
+class Lasting(str):
+    """What a listener is told that isn't what is done next, and has to stay in sight."""
+
+
 class _Shared(NamedTuple):
     """Of the relaxation: its shares of units and periods, and its multipliers."""
 
@@ -146,6 +150,7 @@ class Search:
         self.rounds = self.anneals = 0  # of all kinds, and of annealing
         self.by_windows = self.by_annealing = math.inf  # what each gained last
         self.was_windows, self.idle = False, 0  # rounds of windows since something was gained
+        self.told = set[str]()  # of what is damaged
         self.pace = 0.0  # seconds that annealing took for each of its tries
         self.end = self.kept.end()
         self.bound = self.kept.bound()
@@ -206,6 +211,16 @@ class Search:
         if self.listener:
             self.listener(self.found, what)
 
+    def arrays(self, name: str) -> dict[str, Array]:
+        """What was kept under a name. What is damaged is told once."""
+
+        def tell(what: str) -> None:
+            if what not in self.told:
+                self.told.add(what)
+                self.tell(Lasting(what))
+
+        return self.kept.arrays(name, tell)
+
     def bounded(self, bound: Bound) -> int:
         """What no schedule is worth more than, in millionths, by what `pit` says at some
         multipliers."""
@@ -229,7 +244,7 @@ class Search:
 
     def clusters(self) -> Clusters:
         """Those that an earlier search ended with, or those to begin with."""
-        kept, made = self.kept.arrays("partition"), self.production
+        kept, made = self.arrays("partition"), self.production
         shapes = {"dug": made.units, "sent": len(made.millable.block)}
         if any(
             name not in kept or kept[name].shape != (rows, made.periods)
@@ -325,7 +340,7 @@ class Search:
     def swap(self, gap: float, ends: float) -> str:
         """Swaps between neighbouring periods in rounds, then windows of these in turns with
         annealing, longer each time, until all bring next to nothing. Gives why it ended."""
-        stale, seed = 0, int(self.kept.arrays("swaps").get("seed", np.array(0)))
+        stale, seed = 0, int(self.arrays("swaps").get("seed", np.array(0)))
         while True:
             if self.found.gap <= gap:
                 return GAP
