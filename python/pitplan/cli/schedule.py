@@ -89,9 +89,11 @@ def schedule(
 
 def _words(found: Found) -> str:
     """How far a search is."""
-    gap = f"{found.gap:.3%} below the bound" if found.gap < 1e9 else "no bound yet"
-    pits = f"{counted(found.closures, 'pit')} of the mine of blocks and periods"
-    return f"{gap}, {counted(found.filled, 'period')} filled, {pits}"
+    if found.npv is None:
+        return "no schedule yet"
+    best = f", the best of {found.closures:,}" if found.closures > 1 else ""
+    gap = f"{found.gap:.3%} below the bound{best}" if found.gap < 1e9 else "no bound yet"
+    return f"a schedule of {counted(found.filled, 'period')}, {gap}"
 
 
 @contextmanager

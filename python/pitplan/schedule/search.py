@@ -192,14 +192,14 @@ class Search:
         self.sorting.ends = ends
         highs.begin(1)  # which takes a while, before it is needed
         if self.plan is None:
-            self.tell("a first schedule, shell by shell")
+            self.tell("a first schedule, one pit of the series after the other")
             self.take(self.sorting.by_shells())
         if self.found.gap > gap:
             found = self.lower(gap, time.monotonic() + seconds * _BOUND_PART)
             if found is not None:
                 self.sort(found, gap, ends)
         if self.found.gap > gap and is_small(self.production):
-            self.tell("all schedules of a small mine")
+            self.tell("all schedules of this small mine, by HiGHS")
             plan, is_all = by_whole_units(self.production, ends - time.monotonic())
             self.take(plan)
             if is_all and self.found.gap > gap:
@@ -263,12 +263,12 @@ class Search:
             prefix=f".closures.{mark()}", dir=self.kept.folder
         ) as work:
             while True:
-                self.tell("a relaxation over clusters")
+                self.tell("the bound: a plan that may split blocks, by HiGHS")
                 relaxed = relax(made, cluster, self.left_until(ends))
                 if relaxed is None:
                     return answer
                 answer = _Shared(shares_of(cluster, relaxed), relaxed.multipliers)
-                self.tell("a pit of the mine of blocks and periods")
+                self.tell("the bound: pit proves one from that plan")
                 pit = self.closed(Path(work), relaxed, self.left_until(ends))
                 if pit is None:
                     return answer
@@ -320,7 +320,7 @@ class Search:
         the one without it too."""
         for shares, multipliers in (shared, *self.shared_without_cost(ends)):
             for plan in self.sorting.by_shares(shares, multipliers):
-                self.tell("schedules by the relaxation")
+                self.tell("schedules in the order of that plan")
                 self.take(plan)
                 if self.found.gap <= gap or time.monotonic() > ends:
                     return
@@ -363,16 +363,16 @@ class Search:
         self.rounds, before = self.rounds + 1, self.found.npv
         is_for_windows = self.rounds > _SWAPS and self.is_for_windows
         if self.rounds <= _SWAPS:
-            self.tell("swaps between neighbouring periods")
+            self.tell("blocks swapped between neighbouring periods")
             self.take(self.sorting.swapped(self.plan, _TRIES, seed))
         elif is_for_windows:
-            self.tell("windows of a few periods, by HiGHS")
+            self.tell("a few periods scheduled anew, by HiGHS")
             for width in _WIDTHS:
                 if self.found.gap > self.end.gap:
                     self.take(self.windows.bettered(self.plan, width, seed))
             self.by_windows, self.was_windows = float(self.found.npv - before), True
         else:
-            self.tell("annealing: swaps of which some lose")
+            self.tell("swaps of which some lose at first (annealing)")
             self.anneals += 1
             self.anneal(self.anneals, seed)
             self.by_annealing, self.was_windows = (self.found.npv - before) / _DEARER, False

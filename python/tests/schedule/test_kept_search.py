@@ -81,7 +81,7 @@ def test_what_a_killed_search_leaves_is_swept_away(study, kept, monkeypatch):
     words = [sys.executable, PITPLAN, "schedule", study, "--gap", "0"]
     begun = subprocess.Popen(words, stdout=subprocess.DEVNULL, stderr=subprocess.PIPE, text=True)
     for line in begun.stderr:
-        if line.startswith("a pit of the mine of blocks and periods"):
+        if line.startswith("the bound: pit proves one"):
             break
     (alive,) = kept.glob(".closures.*")
     begun.kill()
