@@ -218,7 +218,7 @@ def overview(study: Path) -> _Json:
     }
 
 
-def _plan_of(built: Study, values: _Json, rates: _Json) -> _Json | None:
+def _plan_of(built: Study, values: Mapping[str, Any], rates: Mapping[str, Any]) -> _Json | None:
     """The plan by years of a study, as `overview` says what there is; None where there is none.
     Without values and rates it is of others."""
     try:

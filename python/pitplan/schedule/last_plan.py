@@ -24,7 +24,7 @@ _KINDS: dict[str, kept_json.Holds] = {
 
 
 @dataclass(frozen=True)
-class LastPlan:
+class _LastPlan:
     """A plan by years.
 
     Attributes
@@ -63,7 +63,7 @@ def basis_of(model: str, values: Mapping[str, Any], rates: Mapping[str, Any]) ->
 
 def last_plan(
     study: Path, model: str, values: Mapping[str, Any], rates: Mapping[str, Any]
-) -> LastPlan | None:
+) -> _LastPlan | None:
     """The plan by years that was shown last; None where none was since the model was built.
 
     Parameters
@@ -85,7 +85,7 @@ def last_plan(
         found = kept_json.read(study / "out" / "schedule.json", _KINDS, again)
     except (FileNotFoundError, NotADirectoryError):
         return None
-    return LastPlan(
+    return _LastPlan(
         None if found["npv"] is None else Decimal(found["npv"]),
         found["gap_percent"],
         found["is_judged"],

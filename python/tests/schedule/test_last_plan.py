@@ -60,7 +60,9 @@ def test_without_a_file_there_is_none_and_a_damaged_one_is_told(tmp_path):
 
 def test_status_and_the_desk_say_whether_there_is_a_plan(tmp_path):
     folder = built(tmp_path / "s")
-    assert re.search(f"plan by years: none yet; \\S*pitplan schedule {folder} finds one", said(folder))
+    assert re.search(
+        f"plan by years: none yet; \\S*pitplan schedule {folder} finds one", said(folder)
+    )
     assert overview(folder)["plan"] is None
     run("schedule", folder, "--gap", "5", "--minutes", "1")
     facts = json.loads((folder / "out" / "schedule.json").read_text())
