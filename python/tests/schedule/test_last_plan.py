@@ -5,12 +5,10 @@ from decimal import Decimal
 
 import pytest
 
-from pitplan import Study
 from pitplan.base.kept_json import Damaged
 from pitplan.desk.work import overview
 from pitplan.schedule.last_plan import basis_of, last_plan
-from pitplan.study.study_file import read_study_file
-from planned import TERMS, built, run
+from planned import built, run
 
 MODEL, VALUES, RATES = "0" * 64, {"years": 6, "mill_rate": [0, 4e5]}, {"discount": 0.08}
 
