@@ -198,9 +198,9 @@ def is_rounding(value: Any) -> bool:
 
 
 def is_rate(value: Any) -> bool:
-    """Whether this is a number above 0, or a list of such numbers."""
+    """Whether this is a number above 0, or a list of numbers of which some may be 0."""
     each = value if isinstance(value, list) else [value]
-    return all(is_number(one, 1e-12) for one in each)
+    return all(is_number(one, 0) for one in each) and any(one >= 1e-12 for one in each)
 
 
 def has_ramp(value: Any) -> bool:
@@ -262,7 +262,7 @@ SLOPES = Kind(
 )
 
 KEPT = Kind("a number above 0 and at most 1", lambda value: is_number(value, 0, 1) and value > 0)
-RATE = Kind("a number above 0, or a list of such numbers", is_rate)
+RATE = Kind("a number above 0, or a list of numbers of which some may be 0", is_rate)
 ONE_RATE = Kind("a number above 0", lambda value: is_number(value, 1e-12))
 COUNT = Kind("a whole number from 1 on", lambda value: is_whole(value, 1))
 MOST_WAYS = 8  # to treat a block

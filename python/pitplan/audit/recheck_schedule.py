@@ -809,7 +809,7 @@ class Asked(NamedTuple):
         most = 0
         for rates, total in zip(self.rates, totals):
             year, left = 0, total / THOUSAND
-            while rates and left > 0:
+            while rates and left > 0 and (year < len(rates) or rates[-1]):
                 left -= float(rates[min(year, len(rates) - 1)])
                 year += 1
             most = max(most, year)
@@ -1140,6 +1140,7 @@ def binding(
         room = asked.room(resource, period) if asked.rates[resource] else 0
         if not room:
             need(line.word(cell) == "", f"{what}: {cell}")
+            binds += [name] if is_full else []  # as before a mill starts
             continue
         share = tonnes * THOUSAND / room
         need(recheck.is_close(line.number(cell), share, left * share), f"{what}: {cell}")

@@ -65,6 +65,7 @@ def schedule(
 ) -> None:
     """Plan by years: a schedule of the best pit, its net present value, and a proved bound of all
     schedules. Goes on where it was stopped."""
+    from ..schedule.last_plan import basis_of
     from ..schedule.plan import Schedule
     from ..schedule.search_ends import Limits
     from ..schedule.tables import Tables
@@ -72,12 +73,13 @@ def schedule(
     plan = described(folder)
     shells, rates = shells_of(folder)
     values, limits = plan.values["schedule"], Limits(gap / _PERCENT, minutes * _MINUTE)
-    with _shown(gap / _PERCENT) as listener, _stopped(shells, limits):
+    basis = basis_of(shells.study.key, values, rates)
+    with _shown(gap / _PERCENT) as listener, _stopped(shells, limits, basis):
         found = Schedule.of(shells, values, rates, limits, listener)
     show_schedule(shells.study, found.digest)
     tables = Tables(found, mining_width)
     years = tables.years()
-    _write_facts(found.shells, found.facts)
+    _write_facts(found.shells, found.facts | basis)
     _write_tables(found, tables, years, plan.keys.encoding)
     _draw(found, years)
     _write_page(found, years)
@@ -87,13 +89,15 @@ def schedule(
 
 def _words(found: Found) -> str:
     """How far a search is."""
-    gap = f"{found.gap:.3%} below the bound" if found.gap < 1e9 else "no bound yet"
-    pits = f"{counted(found.closures, 'pit')} of the mine of blocks and periods"
-    return f"{gap}, {counted(found.filled, 'period')} filled, {pits}"
+    if found.npv is None:
+        return "no schedule yet"
+    best = f", the best of {found.closures:,}" if found.closures > 1 else ""
+    gap = f"{found.gap:.3%} below the bound{best}" if found.gap < 1e9 else "no bound yet"
+    return f"a schedule of {counted(found.filled, 'period')}, {gap}"
 
 
 @contextmanager
-def _stopped(shells: Shells, limits: Limits) -> Iterator[None]:
+def _stopped(shells: Shells, limits: Limits, basis: Mapping[str, Any]) -> Iterator[None]:
     """After ctrl-C says how far the search is and, where it has a schedule, writes schedule.json;
     then what shows another schedule is put out of the way."""
     from ..schedule.search_ends import STOPPED, End, SearchStopped
@@ -106,7 +110,7 @@ def _stopped(shells: Shells, limits: Limits) -> Iterator[None]:
         if stopped.digest:
             warn(f"its table: {command('schedule', shells.study.named, '--minutes', '0')}")
             show_schedule(shells.study, stopped.digest)
-            _write_facts(shells, stopped.found.facts | end.facts)
+            _write_facts(shells, stopped.found.facts | end.facts | basis)
         raise
 
 
@@ -137,6 +141,8 @@ def _shown(wanted: float) -> Iterator[Listener]:
         return
     from rich.progress import BarColumn, Progress, TextColumn, TimeElapsedColumn
 
+    from ..schedule.search import Lasting
+
     with Progress(
         TextColumn("{task.description}"),
         BarColumn(),
@@ -149,6 +155,9 @@ def _shown(wanted: float) -> Iterator[Listener]:
 
         def drawn(found: Found, what: str) -> None:
             events.event("step", what=what)
+            if isinstance(what, Lasting):
+                bars.console.print(what, highlight=False)
+                return
             share = min(wanted / found.gap, 1.0) if 0 < found.gap < 1e9 else 0.0
             bars.update(bar, completed=share, description=what, text=_words(found))
 
@@ -339,7 +348,7 @@ def _warn_of_rest(schedule: Schedule, years: pd.DataFrame) -> None:
     if not left.blocks:
         return
     rock = printed_scale(years["rock_t"], study.model.units.weight)
-    is_full = (years["rock_t"] > 0).sum() == schedule.production.terms.periods
+    is_full = len(years) == schedule.production.terms.periods  # up to the last that digs anything
     warn(
         f"{left.blocks:,} {'block of the pit stays' if left.blocks == 1 else 'blocks of the pit stay'}"
         f" in the ground, {rock.said(left.tonnes)} worth {study.currency} {left.worth:,.0f} undiscounted"

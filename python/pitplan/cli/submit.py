@@ -7,7 +7,7 @@ from pathlib import Path
 from typing import TYPE_CHECKING, Optional
 
 import typer
-from ..base.errors import MachineError
+from ..base.errors import MachineError, PlanError
 from ..base.next_command import command
 from ..base.units_shown import counted, duration_text
 from .console import STUDY, app, described, open_study, say, warn
@@ -16,6 +16,7 @@ from .tasks_here import do_all
 if TYPE_CHECKING:
     from ..plans.task_line import Task
     from ..study.study import Study
+    from ..study.study_file import StudyFile
     from ..tasks.clusters import Handed
 
 _SHOWN = 5  # failures that are told
@@ -166,6 +167,27 @@ def status(folder: Path = STUDY) -> None:
     left = seconds_left(study, found)
     if left:
         say(f"the rest will take about {duration_text(left)}, by what is done")
+    _say_plan(study, described(folder))
     last = last_line(study.folder)
     if last:
         say(last)
+
+
+def _say_plan(study: Study, plan: StudyFile) -> None:
+    """Whether there is a plan by years, what it is worth, and whether it is of study.toml as it
+    stands."""
+    from ..schedule.last_plan import last_plan
+
+    try:
+        found = last_plan(study.folder, study.key, plan.values["schedule"], plan.rates)
+    except PlanError as error:
+        warn(str(error))
+        return
+    again = command("schedule", study.named)
+    if found is None:
+        is_kept = (study.folder / "runs" / "schedule" / "schedule.npz").is_file()
+        said = "none shown of this model, but one was found before" if is_kept else "none yet"
+        say(f"plan by years: {said}; {again} {'goes on' if is_kept else 'finds one'}")
+        return
+    more = f"; {again} finds it anew" if found.is_stale else ""
+    say(f"plan by years: {found.words(study.currency)}{more}")

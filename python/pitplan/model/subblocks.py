@@ -14,6 +14,7 @@ from ..base.errors import PlanError, Remedy
 from ..table.column_names import PLACES, SIZES, columns_with
 from ..table.csv_text import NO_WEIGHT, number_column
 from ..table.formula import stripped
+from ..table.marks import is_of_numbers
 from .grid import Grid
 
 if TYPE_CHECKING:
@@ -377,5 +378,5 @@ def _weights(
 def _number_column_or_words(values: pd.Series, table: str) -> None:
     """Tells the cell that makes words of a column of numbers, before it is lost among the
     sub-blocks of a whole block."""
-    if pd.to_numeric(values, errors="coerce").notna().mean() > 0.5:
+    if is_of_numbers(values):
         number_column(values, table)

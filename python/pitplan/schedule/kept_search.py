@@ -11,6 +11,7 @@ import hashlib
 import json
 import shutil
 import zlib
+from collections.abc import Callable
 from dataclasses import asdict, dataclass
 from pathlib import Path
 from typing import Any
@@ -158,12 +159,15 @@ class Kept:
         with whole_file(self.folder / "end.json") as part:
             part.write_text(json.dumps({"production": self.production.key} | asdict(end)))
 
-    def arrays(self, name: str) -> dict[str, Array]:
+    def arrays(self, name: str, tell: Callable[[str], None] | None = None) -> dict[str, Array]:
         """The arrays that were kept under a name, none where they aren't of this production, or can't
-        be read: those beside the schedule are made anew, and nothing is lost."""
+        be read: those beside the schedule are made anew, and nothing is lost. What can't be read is
+        told in a line."""
         try:
             return self.whole_arrays(name)
-        except kept_json.Damaged:
+        except kept_json.Damaged as error:
+            if tell:
+                tell(f"{error.what}; the search goes on without it, and makes it anew")
             return {}
 
     def whole_arrays(self, name: str) -> dict[str, Array]:

@@ -3,7 +3,6 @@ with its bound."""
 from __future__ import annotations
 
 import hashlib
-import math
 from collections.abc import Mapping
 from dataclasses import dataclass, replace
 from decimal import Decimal
@@ -18,7 +17,7 @@ from ..base.errors import NotAccepted, PlanError
 from ..base.next_command import command
 from ..pit.schedule_answer import Scheduled
 from ..study.pit_by_pit import Rates
-from .search_ends import End, Limits, SearchStopped
+from .search_ends import End, Limits, SearchStopped, gap_text
 from .pit_schedule import judged
 from .destinations import Timetable
 from .production import Production, feeds_of, production_of
@@ -105,10 +104,8 @@ class Schedule:
 
     @property
     def gap_text(self) -> str:
-        """The gap in percent with two digits that count, rounded up: never smaller than it is."""
-        places = max(2, 2 - math.floor(math.log10(float(self.gap)))) if self.gap > 0 else 2
-        step = 10 ** min(places, 6)
-        return f"{math.ceil(self.gap * step) / step:.{min(places, 6)}f} %"
+        """The gap in words, as `search_ends.gap_text` says it."""
+        return gap_text(self.gap)
 
     @classmethod
     def of(

@@ -13,7 +13,7 @@ from typing import Any, NamedTuple
 
 import numpy as np
 
-from ..base.arrays import Floats, Ints
+from ..base.arrays import Array, Floats, Ints
 from ..base.files import mark
 from ..pit.program import Files, Pit
 from . import highs
@@ -97,6 +97,10 @@ class Found:
 Listener = Callable[[Found, str], None]  # how far it is, and what is done next
 
 
+class Lasting(str):
+    """What a listener is told that isn't what is done next, and has to stay in sight."""
+
+
 class _Shared(NamedTuple):
     """Of the relaxation: its shares of units and periods, and its multipliers."""
 
@@ -146,6 +150,7 @@ class Search:
         self.rounds = self.anneals = 0  # of all kinds, and of annealing
         self.by_windows = self.by_annealing = math.inf  # what each gained last
         self.was_windows, self.idle = False, 0  # rounds of windows since something was gained
+        self.told = set[str]()  # of what is damaged
         self.pace = 0.0  # seconds that annealing took for each of its tries
         self.end = self.kept.end()
         self.bound = self.kept.bound()
@@ -187,14 +192,14 @@ class Search:
         self.sorting.ends = ends
         highs.begin(1)  # which takes a while, before it is needed
         if self.plan is None:
-            self.tell("a first schedule, shell by shell")
+            self.tell("a first schedule, one pit of the series after the other")
             self.take(self.sorting.by_shells())
         if self.found.gap > gap:
             found = self.lower(gap, time.monotonic() + seconds * _BOUND_PART)
             if found is not None:
                 self.sort(found, gap, ends)
         if self.found.gap > gap and is_small(self.production):
-            self.tell("all schedules of a small mine")
+            self.tell("all schedules of this small mine, by HiGHS")
             plan, is_all = by_whole_units(self.production, ends - time.monotonic())
             self.take(plan)
             if is_all and self.found.gap > gap:
@@ -205,6 +210,16 @@ class Search:
         """Says how far it is."""
         if self.listener:
             self.listener(self.found, what)
+
+    def arrays(self, name: str) -> dict[str, Array]:
+        """What was kept under a name. What is damaged is told once."""
+
+        def tell(what: str) -> None:
+            if what not in self.told:
+                self.told.add(what)
+                self.tell(Lasting(what))
+
+        return self.kept.arrays(name, tell)
 
     def bounded(self, bound: Bound) -> int:
         """What no schedule is worth more than, in millionths, by what `pit` says at some
@@ -229,7 +244,7 @@ class Search:
 
     def clusters(self) -> Clusters:
         """Those that an earlier search ended with, or those to begin with."""
-        kept, made = self.kept.arrays("partition"), self.production
+        kept, made = self.arrays("partition"), self.production
         shapes = {"dug": made.units, "sent": len(made.millable.block)}
         if any(
             name not in kept or kept[name].shape != (rows, made.periods)
@@ -248,12 +263,12 @@ class Search:
             prefix=f".closures.{mark()}", dir=self.kept.folder
         ) as work:
             while True:
-                self.tell("a relaxation over clusters")
+                self.tell("the bound: a plan that may split blocks, by HiGHS")
                 relaxed = relax(made, cluster, self.left_until(ends))
                 if relaxed is None:
                     return answer
                 answer = _Shared(shares_of(cluster, relaxed), relaxed.multipliers)
-                self.tell("a pit of the mine of blocks and periods")
+                self.tell("the bound: pit proves one from that plan")
                 pit = self.closed(Path(work), relaxed, self.left_until(ends))
                 if pit is None:
                     return answer
@@ -305,7 +320,7 @@ class Search:
         the one without it too."""
         for shares, multipliers in (shared, *self.shared_without_cost(ends)):
             for plan in self.sorting.by_shares(shares, multipliers):
-                self.tell("schedules by the relaxation")
+                self.tell("schedules in the order of that plan")
                 self.take(plan)
                 if self.found.gap <= gap or time.monotonic() > ends:
                     return
@@ -325,7 +340,7 @@ class Search:
     def swap(self, gap: float, ends: float) -> str:
         """Swaps between neighbouring periods in rounds, then windows of these in turns with
         annealing, longer each time, until all bring next to nothing. Gives why it ended."""
-        stale, seed = 0, int(self.kept.arrays("swaps").get("seed", np.array(0)))
+        stale, seed = 0, int(self.arrays("swaps").get("seed", np.array(0)))
         while True:
             if self.found.gap <= gap:
                 return GAP
@@ -348,16 +363,16 @@ class Search:
         self.rounds, before = self.rounds + 1, self.found.npv
         is_for_windows = self.rounds > _SWAPS and self.is_for_windows
         if self.rounds <= _SWAPS:
-            self.tell("swaps between neighbouring periods")
+            self.tell("blocks swapped between neighbouring periods")
             self.take(self.sorting.swapped(self.plan, _TRIES, seed))
         elif is_for_windows:
-            self.tell("windows of a few periods, by HiGHS")
+            self.tell("a few periods scheduled anew, by HiGHS")
             for width in _WIDTHS:
                 if self.found.gap > self.end.gap:
                     self.take(self.windows.bettered(self.plan, width, seed))
             self.by_windows, self.was_windows = float(self.found.npv - before), True
         else:
-            self.tell("annealing: swaps of which some lose")
+            self.tell("swaps of which some lose at first (annealing)")
             self.anneals += 1
             self.anneal(self.anneals, seed)
             self.by_annealing, self.was_windows = (self.found.npv - before) / _DEARER, False

@@ -1,7 +1,9 @@
 """When a search for a schedule has to end, and why it ended."""
 from __future__ import annotations
 
+import math
 from dataclasses import dataclass
+from decimal import Decimal
 from typing import TYPE_CHECKING, Any, NamedTuple
 
 from ..base import kept_json
@@ -25,6 +27,17 @@ KINDS: dict[str, kept_json.Holds] = {
     "seconds": kept_json.is_number,
     "rounds": kept_json.is_count,
 }
+
+
+def gap_text(gap: Decimal | float) -> str:
+    """A gap in percent with three digits that count, or two decimals, rounded up: never smaller than it is.
+
+    >>> gap_text(0.03912), gap_text(1.001), gap_text(0)
+    ('0.0392 %', '1.01 %', '0.00 %')
+    """
+    places = max(2, 2 - math.floor(math.log10(float(gap)))) if gap > 0 else 2
+    step = 10 ** min(places, 6)
+    return f"{math.ceil(gap * step) / step:.{min(places, 6)}f} %"
 
 
 class SearchStopped(KeyboardInterrupt):

@@ -425,12 +425,13 @@ def _place_of(name: str, values: Mapping[str, Any]) -> tuple[str, ...]:
 
 
 def _years_of(rates: list[float], total: float) -> int:
-    """The years that some tonnes take, of which the last rate stays."""
+    """The years that some tonnes take, of which the last rate stays; where that is 0, those in which
+    anything is taken of what they never take whole."""
     for year, rate in enumerate(rates):
         total -= rate
         if total <= 0:
             return year + 1
-    return len(rates) + min(math.ceil(total / rates[-1]), 10**9)
+    return len(rates) + (min(math.ceil(total / rates[-1]), 10**9) if rates[-1] else 0)
 
 
 def _refuse_longer(name: str, yearly: Sequence[float], years: int | None) -> None:

@@ -42,8 +42,9 @@ def by_whole_units(production: Production, seconds: float) -> _Best:
     """
     cluster = _one_for_each(production)
     program = Program.of(production, cluster)
-    scale = np.ones(len(program.limits))
-    scale[: production.capacities.size] = GRAINS / np.maximum(production.capacities.ravel(), 1)
+    scale, rooms = np.ones(len(program.limits)), production.capacities
+    usual = rooms.max(axis=1, keepdims=True)  # of a resource, where a period has none of it
+    scale[: rooms.size] = GRAINS / np.maximum(np.where(rooms > 0, rooms, usual), 1).ravel()
     found = milp(
         program.gains,
         diags(scale) @ program.table,

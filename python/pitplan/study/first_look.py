@@ -5,7 +5,7 @@ from __future__ import annotations
 import math
 import re
 import tomllib
-from collections.abc import Mapping, Sequence
+from collections.abc import Iterator, Mapping, Sequence
 from dataclasses import dataclass, field
 from keyword import iskeyword
 from pathlib import Path
@@ -31,50 +31,15 @@ from ..table.csv_text import (
     read_frame,
 )
 from ..table.formula import text_of
+from ..table.marks import LIMIT, MARKS, are_limits, is_of_numbers
 from ..table.share_columns import is_part, remedy_of_part
 from .study_template import aligned, metal, template
 
 _UTF_8 = Dialect().encoding
 GRADE = "GRADE"  # a column of a grade where none is found
-_MARKS = (
-    "-9",
-    "-99",
-    "-999",
-    "-9999",
-    "-99.0",
-    "-999.0",
-    "-1",
-    "-1.0",
-    "-",
-    "--",
-    "*",
-    "N/A",
-    "n/a",
-    "NA",
-    "#N/A",
-    "NaN",
-    "nan",
-    "absent",
-    "null",
-    "NULL",
-    "None",
-    "N/D",
-    "n/d",
-    "ND",
-    "nd",
-    "N.D.",
-    "n.d.",
-    "S/D",
-    "s/d",
-    "SD",
-    "s/i",
-    "S/I",
-    "",
-)
 _MOSTLY = (
     0.9  # the share of numbers from which a column is one of numbers with a few words among them
 )
-_LIMIT = re.compile(r"<\s*\d*[.,]?\d+")  # below the limit of an assay
 _MOST_LIMITS = 20
 _MOST_REGIONS = 12  # of slopes: a column with more words than that names something else
 _MOST_ROCKS = 12  # that are named
@@ -199,6 +164,7 @@ def look_at(
         f"{mark or 'an empty cell'} stands for \"not estimated\" in {', '.join(columns)}, and counts as 0"
         for mark, columns in where.items()
     ]
+    look.notes += _mostly_below(frame, where)
     x, y, z = (number_column(frame[names[key]], table.name, hint=NO_PLACE) for key in PLACES)
     _find_grid(look, frame, x, y, z)
     _find_parts(look, frame)
@@ -244,23 +210,39 @@ def _marks_of(values: pd.Series) -> list[str]:
     """The cells of a column that seem to stand for "not estimated"; none in a column of words."""
     if values.dtype.kind in "iuf":
         found = [""] if values.isna().any() and not values.isna().all() else []
-        while float(values.min()) < 0 and f"{values.min():g}" in _MARKS:
+        while float(values.min()) < 0 and f"{values.min():g}" in MARKS:
             found.append(f"{values.min():g}")
             values = values[values > values.min()]
         return found
-    if _share_of_numbers(values) <= 0.5:
+    if not is_of_numbers(values):
         return []
     words = _words_among(values)
     return (
-        [mark for mark in _MARKS if mark in words]
-        + sorted(word for word in words if _LIMIT.fullmatch(word))[:_MOST_LIMITS]
+        [mark for mark in MARKS if mark in words]
+        + sorted(word for word in words if LIMIT.fullmatch(word))[:_MOST_LIMITS]
         + ([""] if values.isna().any() else [])
     )
 
 
+def _mostly_below(frame: pd.DataFrame, where: Mapping[str, Sequence[str]]) -> Iterator[str]:
+    """What is said of columns of which most cells are below detection: there it matters that they
+    count as 0. `where` has the columns of each mark."""
+    limits = [mark for mark in where if LIMIT.fullmatch(mark)]
+    for name in dict.fromkeys(name for mark in limits for name in where[mark]):
+        below = are_limits(frame[name])
+        if float(below.mean()) > 0.5:
+            yield (
+                f"{int(below.sum()):,} of {len(below):,} cells of {name} are below detection, as"
+                f" {next(mark for mark in limits if name in where[mark])}, and count as 0, by"
+                " absent in study.toml: where they are to count for more, write numbers into the"
+                " table"
+            )
+
+
 def _share_of_numbers(values: pd.Series) -> float:
-    """How many of a column's cells are numbers, as a share of all."""
-    return float(pd.to_numeric(values, errors="coerce").notna().mean())
+    """How many of a column's cells are numbers or below detection, as a share of all."""
+    are = pd.to_numeric(values, errors="coerce").notna() | are_limits(values)
+    return float(are.mean())
 
 
 def _words_among(values: pd.Series) -> list[str]:
@@ -282,7 +264,7 @@ def _is_grade(frame: pd.DataFrame, name: str, look: _Look) -> bool:
     try:
         values = number_column(frame[name].iloc[:20000], name, look.absent)
     except PlanError as error:
-        is_one = _share_of_numbers(frame[name]) > _MOSTLY
+        is_one = is_of_numbers(frame[name]) and _share_of_numbers(frame[name]) > _MOSTLY
         if is_one:
             look.notes.append(
                 (

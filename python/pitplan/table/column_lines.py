@@ -6,6 +6,8 @@ from typing import Any
 
 import pandas as pd
 
+from .marks import is_of_numbers
+
 _MOST_WORDS = 12  # words of a column that are listed
 _FEW = 3  # .. of one that has more
 
@@ -23,7 +25,7 @@ def line_of_column(values: pd.Series, marks: Sequence[float]) -> dict[str, Any]:
     numbers = pd.to_numeric(values, errors="coerce")
     numbers = numbers.mask(numbers.isin(marks))
     there = numbers.notna()
-    if there.mean() > 0.5:
+    if there.any() and (values.dtype.kind in "iuf" or is_of_numbers(values)):
         found = [float(numbers.min()), float(numbers.mean()), float(numbers.max())]
         return {"numbers": found, "words": [], "told": [*map(_short, found), _some(~there), ""]}
     words = values.dropna().value_counts()

@@ -25,6 +25,7 @@ from ..base.arrays import Floats
 from ..base.errors import MOST_CELLS, Cell, PlanError, Remedy
 from ..base.machine import free_memory
 from ..base.within import is_outside, refuse_outside
+from .marks import are_limits
 
 _SEPARATORS = ",;\t"
 _THOUSANDS = re.compile(r"[+-]?[1-9]\d{0,2}(([,'\s]\d{3})+(\.\d+)?|([.\s]\d{3})+,\d+)")
@@ -459,7 +460,7 @@ def _refuse_points(values: pd.Series, path: Path) -> None:
     """Refuses points in a column of numbers of a table whose decimals have a comma, where 8.200 may
     be eight thousand or eight. Where another cell, as 0.15, can't be a whole number, they are
     decimals."""
-    filled = values.dropna()
+    filled = values[values.notna() & ~are_limits(values)]
     text = filled.astype(str).str.strip()
     is_plain, is_text = text.str.fullmatch(PLAIN.pattern), filled.map(type) == str
     pointed = is_plain & is_text & text.str.contains(".", regex=False)

@@ -22,6 +22,7 @@ from ..base.near_words import meant, near_to
 from ..base.usual_metals import METALS
 from .column_names import AIR
 from .csv_text import number_column
+from .marks import is_of_numbers
 
 _Operator = Callable[..., Any]
 _BINARY: dict[type[ast.operator], _Operator] = {
@@ -366,10 +367,7 @@ class _Reading:
         far."""
         for name in self.used:
             cells = self.table[name]
-            if (
-                cells.dtype.kind not in "iufb"
-                and pd.to_numeric(cells, errors="coerce").notna().mean() > 0.5
-            ):
+            if cells.dtype.kind not in "iufb" and is_of_numbers(cells):
                 number_column(
                     pd.Series(
                         cells.to_numpy(),

@@ -640,22 +640,24 @@ KEYS = (
         "schedule",
         "mining_rate",
         "rates",
-        "tonnes of rock a year: a number, or a list by year, whose last number stays; default: that of [shells]",
+        (
+            "tonnes of rock a year: a number, or a list by year, whose last number stays; 0 in a year in"
+            " which nothing is dug; default: that of [shells]"
+        ),
         "Rate of digging",
         "tonnes a year",
-        least=0,
-        above=True,
         is_written=False,
     ),
     Key(
         "schedule",
         "mill_rate",
         "rates",
-        "tonnes of the mill's feed a year, likewise; `processes` have rates of their own",
+        (
+            "tonnes of the mill's feed a year, likewise; 0 in a year without a mill, in which no block is"
+            " dug that goes there; `processes` have rates of their own"
+        ),
         "Rate of milling",
         "tonnes a year",
-        least=0,
-        above=True,
         is_written=False,
     ),
     Key(

@@ -102,8 +102,9 @@ def has_ramp(value: Any) -> bool:
 
 
 def _are_rates(value: Any) -> bool:
-    """Whether this is a number, or a list of numbers."""
-    return is_number(value) or is_list(value) and len(value) > 0 and all(map(is_number, value))
+    """Whether this is a number above 0, or a list of numbers by year, of which some may be 0."""
+    each = value if is_list(value) else [value]
+    return all(is_number(rate) and rate >= 0 for rate in each) and any(rate > 0 for rate in each)
 
 
 RAMP = "{ width = 25, grade = 0.10, height = 300, turns = 2 }"
@@ -149,7 +150,12 @@ _POSITIVE = {"type": "number", "exclusiveMinimum": 0}
 _RATES: dict[str, Any] = {
     "oneOf": [
         {**_POSITIVE, "title": "the same each year"},
-        {"title": "year by year", "type": "array", "items": _POSITIVE, "minItems": 1},
+        {
+            "title": "year by year",
+            "type": "array",
+            "items": {"type": "number", "minimum": 0},
+            "contains": {"exclusiveMinimum": 0},
+        },
     ]
 }
 _RAMP_SCHEMA: dict[str, Any] = {
@@ -230,20 +236,16 @@ KINDS: dict[str, Kind] = {
         '{ tonnes = 10400, rock = "waste" }',
     ),
     "rates": Kind(
-        "a number, or a list of numbers by year as [15e6, 20e6], each",
+        "a number above 0, or a list of numbers by year as [0, 15e6, 20e6], each of at least 0 and one"
+        " above 0",
         _are_rates,
         _RATES,
         "[15e6, 20e6]",
     ),
     "process_rates": Kind(
-        "a table by process as { mill = [15e6, 20e6], leach = 5e6 }, each a number above 0, or a list"
-        " of such numbers by year",
-        lambda value: is_table(value)
-        and len(value) > 0
-        and all(
-            _are_rates(rate) and min(rate if is_list(rate) else [rate]) > 0
-            for rate in value.values()
-        ),
+        "a table by process as { mill = [0, 15e6, 20e6], leach = 5e6 }, each a number above 0, or a"
+        " list of numbers by year, each of at least 0 and one above 0",
+        lambda value: is_table(value) and len(value) > 0 and all(map(_are_rates, value.values())),
         {
             "type": "object",
             "minProperties": 1,

@@ -221,7 +221,8 @@ def _first_wrong_rate(key: Key, value: Any) -> str:
     is_by_process = key.kind == "process_rates" and is_table(value)
     for name, rate in (value if is_by_process else {"": value}).items():
         for year, number in enumerate(rate if is_list(rate) else [], 1):
-            if not key.holds({name: number} if is_by_process else number):
+            beside = [number, 1]  # a year's may be 0 where that of another isn't
+            if not key.holds({name: beside} if is_by_process else beside):
                 of_year = f"{name} in year {year}" if name else f"year {year}"
                 return f"; {of_year} is {_as_shown(number)}"
         if is_by_process and not key.holds({name: rate}):

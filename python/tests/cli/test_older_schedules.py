@@ -93,7 +93,7 @@ def stopped(folder):
     words = [sys.executable, PITPLAN, "schedule", folder, "--gap", "0"]
     begun = subprocess.Popen(words, stdout=subprocess.PIPE, stderr=subprocess.PIPE, text=True)
     for line in begun.stderr:
-        if line.startswith("schedules by the relaxation"):
+        if line.startswith("schedules in the order of that plan"):
             break
     begun.send_signal(signal.SIGINT)
     said, told = begun.communicate()

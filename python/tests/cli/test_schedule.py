@@ -11,10 +11,12 @@ from pitplan.schedule.search import Found
 
 def test_how_far_a_search_is_in_words():
     one = Found(bound=200_000_000, npv=199_000_000, closures=1, filled=1)
-    words = "0.500% below the bound, 1 period filled, 1 pit of the mine of blocks and periods"
+    words = "a schedule of 1 period, 0.500% below the bound"
     assert command._words(one) == words
-    assert "2 periods filled, 3 pits of" in command._words(Found(200, 199, 3, 2))
-    assert command._words(Found()).startswith("no bound yet, 0 periods filled, 0 pits of")
+    words = "a schedule of 2 periods, 0.500% below the bound, the best of 3"
+    assert command._words(Found(200, 199, 3, 2)) == words
+    assert command._words(Found(None, 199, 0, 6)) == "a schedule of 6 periods, no bound yet"
+    assert command._words(Found()) == command._words(Found(bound=200)) == "no schedule yet"
 
 
 def test_the_facts_of_a_search_that_was_stopped():

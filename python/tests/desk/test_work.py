@@ -66,6 +66,27 @@ def changed(desk, name, *changes):
     return desk.patch(f"/api/studies/{name}", json={"changes": changes})
 
 
+def test_a_grade_that_is_mostly_below_detection_is_told_as_numbers(desk):
+    header, *lines = HILL.splitlines()
+    at, count = header.split(",").index("AU"), len(lines)
+    for n in range(count - 2):
+        cells = lines[n].split(",")
+        lines[n] = ",".join([*cells[:at], "<0.005", *cells[at + 1 :]])
+    for n, gold in ((count - 2, "0.2"), (count - 1, "0.6")):
+        cells = lines[n].split(",")
+        lines[n] = ",".join([*cells[:at], gold, *cells[at + 1 :]])
+    (desk.root / "hill.csv").write_text("\n".join([header, *lines]) + "\n")
+    begun(desk, "below")
+    seen = desk.get("/api/studies/below/look").json()
+    assert seen["grades"] == ["CU", "AU"]
+    assert seen["absent"] == ["<0.005"]
+    assert any(
+        f"{count - 2:,} of {count:,} cells of AU are below" in note for note in seen["notes"]
+    )
+    gold = next(column for column in seen["columns"] if column["name"] == "AU")
+    assert (gold["is"], gold["told"]) == ("grade", ["0.2", "0.4", "0.6", f"{count - 2:,}", ""])
+
+
 def test_a_study_is_begun_as_init_does(desk, tmp_path):
     study = begun(desk, "begun")
     (tmp_path / "hill.csv").write_text(HILL)

@@ -81,7 +81,7 @@ def test_what_a_killed_search_leaves_is_swept_away(study, kept, monkeypatch):
     words = [sys.executable, PITPLAN, "schedule", study, "--gap", "0"]
     begun = subprocess.Popen(words, stdout=subprocess.DEVNULL, stderr=subprocess.PIPE, text=True)
     for line in begun.stderr:
-        if line.startswith("a pit of the mine of blocks and periods"):
+        if line.startswith("the bound: pit proves one"):
             break
     (alive,) = kept.glob(".closures.*")
     begun.kill()
@@ -103,3 +103,17 @@ def test_what_a_killed_search_leaves_is_swept_away(study, kept, monkeypatch):
     scheduled(study, (0.05, 5))
     assert {path.name for path in kept.glob(".*.*")} == {f".judged.{host}.1.x"}
     assert all(name.startswith(f".judged.{host}.") and name.count(".") == 4 for name in names)
+
+
+@pytest.mark.parametrize("name", ["partition", "swaps"])
+@pytest.mark.parametrize("damage", [b"", b"no archive"])
+def test_what_is_made_anew_is_told_in_a_line(study, kept, name, damage):
+    """The search goes on without it, and the same command over what it has made says nothing."""
+    (kept / f"{name}.npz").write_bytes(damage)
+    words = [sys.executable, PITPLAN, "schedule", study, "--gap", "0", "--minutes", "0.05"]
+    ran = subprocess.run(words, capture_output=True, text=True)
+    assert ran.returncode == 0, ran.stderr
+    lines = [line for line in ran.stderr.splitlines() if "damaged" in line]
+    assert len(lines) == 1, ran.stderr
+    assert lines[0].startswith(f"{kept}/{name}.npz is damaged: ")
+    assert "; the search goes on without it, and makes it anew" in lines[0]

@@ -249,7 +249,7 @@ def test_after_ctrl_c_the_same_command_goes_on(tmp_path):
     words = [sys.executable, PITPLAN, "schedule", folder, "--gap", "0"]
     begun = subprocess.Popen(words, stdout=subprocess.PIPE, stderr=subprocess.PIPE, text=True)
     for line in begun.stderr:
-        if line.startswith("schedules by the relaxation"):
+        if line.startswith("schedules in the order of that plan"):
             break
     begun.send_signal(signal.SIGINT)
     text = begun.communicate()[1]
@@ -266,7 +266,7 @@ def test_after_ctrl_c_the_same_command_goes_on(tmp_path):
     assert (facts["ended"], facts["is_judged"]) == ("minutes over", True)
     first = ran.stderr.splitlines()[0]
     assert "no bound yet" not in first
-    assert " 0 pits of the mine of blocks and periods" not in first
+    assert "no schedule yet" not in first
     assert not list((folder / "runs" / "schedule").glob(".closures*"))
 
 

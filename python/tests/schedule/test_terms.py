@@ -44,6 +44,18 @@ def test_years_are_what_the_rates_need_and_one_more():
     assert terms_of({"years": 2}, RATES, 4500, 1).periods == 2
 
 
+def test_a_rate_of_0_leaves_a_year_without_any():
+    terms = terms_of({"years": 4, "mill_rate": [0, 0, 250]}, RATES, 1, 1)
+    assert terms.capacities == ((1_000_000,) * 4, (0, 0, 250_000, 250_000))
+
+
+def test_years_without_a_mill_come_on_top_and_one_that_ends_asks_for_none():
+    late, ended = {"mill_rate": [0, 0, 400]}, {"mill_rate": [400, 400, 0]}
+    assert terms_of(late, RATES, 1, 1300).periods == 7  # 2 without, 3.25 of milling
+    assert terms_of(ended, RATES, 4500, 1300).periods == 6  # 4.5 years of digging
+    assert terms_of(ended, RATES, 1, 1300).periods == 4  # 2.5 of milling never come
+
+
 def test_without_a_rate_nothing_limits_that():
     terms = terms_of({"mill_rate": 400, "years": 1}, {}, 1, 1)
     assert terms.capacities == ((), (400_000,))

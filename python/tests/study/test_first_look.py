@@ -222,3 +222,58 @@ def test_no_rock_is_left_out_of_the_processes_that_init_offers(tmp_path, more):
     for line in listed:
         assert sorted(tomllib.loads(line)["rocks"]) == sorted(rocks)
     assert 'rocks = ["OXI"]' in leach
+
+
+def mostly_below(frame, column, share, limits):
+    """A table with the cells of a column below detection in so many of its rows, a limit after the
+    other; and how many these are."""
+    count = round(share * len(frame))
+    said = frame[column].astype(object)
+    said.iloc[:count] = [limits[n % len(limits)] for n in range(count)]
+    return frame.assign(**{column: said}), count
+
+
+@pytest.mark.parametrize("mark, form", [("<0.01", {}), ("<0,01", {"sep": ";", "decimal": ","})])
+def test_a_grade_that_is_mostly_below_detection_is_one_and_is_counted(tmp_path, mark, form):
+    known = table(6, 5, 4, 3)
+    frame, count = mostly_below(known, "AU", 0.7, [mark])
+    frame.to_csv(tmp_path / "t.csv", index=False, **form)
+    look = first_look.look_at(tmp_path / "t.csv")
+    assert look.grades == ["CU", "AU"]
+    assert look.absent == [mark]
+    assert f'{mark} stands for "not estimated" in AU, and counts as 0' in look.notes
+    assert [note for note in look.notes if "below detection" in note] == [
+        f"{count} of {len(frame)} cells of AU are below detection, as {mark}, and count as 0, by"
+        " absent in study.toml: where they are to count for more, write numbers into the table"
+    ]
+    (tmp_path / "study.toml").write_text(first_look.written(look, "t.csv"))
+    file = read_study_file(tmp_path)
+    assert [metal.grade for metal in file.economics.metals] == ["CU", "AU"]
+    assert file.read_model().blocks.AU.sum() == pytest.approx(known.AU.iloc[count:].sum())
+
+
+def test_init_says_how_many_cells_are_below_detection(tmp_path):
+    frame, count = mostly_below(table(6, 5, 4, 3), "AU", 0.7, ["<0.01", "<0.005"])
+    frame.to_csv(tmp_path / "t.csv", index=False)
+    ran = pitplan("init", "t.csv", cwd=tmp_path)
+    assert "grades: CU, AU\n" in ran.stdout, ran.stderr
+    assert f"{count} of {len(frame)} cells of AU are below detection, as <0.005" in ran.stderr
+    assert 'absent = ["<0.005", "<0.01"]' in (tmp_path / "t" / "study.toml").read_text()
+
+
+def test_where_few_cells_are_below_detection_they_are_told_as_other_marks_are(tmp_path):
+    frame, _ = mostly_below(table(6, 5, 4, 3), "AU", 0.2, ["<0.01"])
+    frame.to_csv(tmp_path / "t.csv", index=False)
+    look = first_look.look_at(tmp_path / "t.csv")
+    assert look.notes == ['<0.01 stands for "not estimated" in AU, and counts as 0']
+
+
+def test_classes_that_begin_with_less_than_are_words(tmp_path):
+    """`<10` is the commonest of three classes of depth, and no grade below detection."""
+    frame = table(6, 5, 4, 3)
+    classes = ["<10", "<10", "<10", "10-20", ">20"]
+    frame["DEPTH"] = [classes[n % 5] for n in range(len(frame))]
+    frame.to_csv(tmp_path / "t.csv", index=False)
+    look = first_look.look_at(tmp_path / "t.csv")
+    assert look.grades == ["CU", "AU"]
+    assert (look.absent, look.notes) == ([], [])

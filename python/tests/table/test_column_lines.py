@@ -37,3 +37,13 @@ def test_of_many_words_their_number_and_the_commonest_are_said():
     few = line_of_column(pd.Series(words[:-1]), [])
     assert few["told"][4].startswith("a, b, c, w")
     assert few["told"][4].count(", ") == 11
+
+
+def test_numbers_most_of_whose_cells_are_below_detection_are_numbers():
+    found = line_of_column(pd.Series(["<0.01"] * 5 + ["-", "0.2", "0.6"]), [])
+    assert found["told"] == ["0.2", "0.4", "0.6", "6", ""]
+    assert found["words"] == []
+
+
+def test_numbers_most_of_whose_cells_are_empty_are_numbers():
+    assert line_of_column(pd.Series([np.nan, np.nan, -9, 3.0]), [-9])["numbers"] == [3, 3, 3]

@@ -387,3 +387,11 @@ def test_a_table_that_isn_t_there_has_a_remedy(tmp_path, there, asked, wanted):
     with pytest.raises(PlanError, match="there is no such file") as error:
         dialect_of(tmp_path / asked)
     assert wanted in str(error.value.try_this)
+
+
+def test_a_point_among_decimal_commas_is_told_where_most_cells_are_below_detection(tmp_path):
+    """8.200 may be eight thousand, whatever stands in the other rows."""
+    lines = ["X;AU", *["1,5;<0,01"] * 6, "1,5;0,35", "1,5;8.200"]
+    (tmp_path / "t.csv").write_text("\n".join(lines) + "\n")
+    with pytest.raises(PlanError, match="row 9, column AU: the cell is '8.200', with a point"):
+        read_frame(tmp_path / "t.csv", dialect_of(tmp_path / "t.csv"))

@@ -45,14 +45,30 @@ def test_a_wrong_value_of_the_schedule_comes_with_one_that_it_may_have(name, val
 @pytest.mark.parametrize(
     "name, value, told",
     [
-        ("mining_rate", [1, -2], "each above 0; year 2 is -2"),
-        ("mining_rate", -2, "each above 0"),
-        ("process_rates", {"mill": 1, "leach": [1, 2, 0]}, "by year; leach in year 3 is 0"),
-        ("process_rates", {"heap leach": "1"}, "by year, without quotes"),
-        ("process_rates", {"mill": 1, "leach": -1}, "by year; leach is -1"),
-        ("process_rates", {}, "by year"),
+        ("mining_rate", [0, 1, -2], "each of at least 0 and one above 0; year 3 is -2"),
+        ("mining_rate", -2, "each of at least 0 and one above 0"),
+        ("mining_rate", 0, "each of at least 0 and one above 0"),
+        ("mining_rate", [0, 0], "each of at least 0 and one above 0"),
+        ("mill_rate", [0], "each of at least 0 and one above 0"),
+        ("process_rates", {"mill": 1, "leach": [0, 2, -1]}, "one above 0; leach in year 3 is -1"),
+        ("process_rates", {"mill": 1, "leach": [0, 0]}, "one above 0; leach is [0, 0]"),
+        ("process_rates", {"heap leach": "1"}, "one above 0, without quotes"),
+        ("process_rates", {"mill": 1, "leach": -1}, "one above 0; leach is -1"),
+        ("process_rates", {}, "one above 0"),
     ],
 )
 def test_of_several_rates_the_first_wrong_one_is_named(name, value, told):
     (error,) = wrong_in("schedule", {name: value})
     assert error.what.endswith(told)
+
+
+@pytest.mark.parametrize(
+    "name, value",
+    [
+        ("mill_rate", [0, 0, 250e3]),
+        ("mining_rate", [1e6, 0]),
+        ("process_rates", {"mill": [0, 15e6], "leach": 5e6}),
+    ],
+)
+def test_a_rate_may_be_0_in_some_years(name, value):
+    assert wrong_in("schedule", {name: value}) == []

@@ -1,8 +1,8 @@
 // The screens: each draws itself from what is known.
 import { amounts, at, button, card, chip, choice, entry, h, having, labelled, look, looks, number,
   size, small, table, tick, tip, value, when } from "./dom.js";
-import { D, agreed, api, ask, byId, draw, faults, file, go, keep, link, queue, say,
-  tab } from "./desk.js";
+import { D, agreed, api, ask, byId, draw, faults, file, go, keep, link, queue, say, tab,
+  valueOf } from "./desk.js";
 import { CALLED, banner, examples, faultBox, fields, mend, set, unused } from "./fields.js";
 import { before, boxes, byYears, chipOf, framed, linesOf, logOf, nameOf, pictures, runner, runsOf,
   years } from "./runs.js";
@@ -63,14 +63,15 @@ const copy = name => ask("POST", "/api/studies", { copy: name }).then(go);
 export function home() {
   const studies = D.home.studies.map(s => [h("a", { href: link(s.name) }, s.name),
     chip(...s.said ?? ["bad", "can't be read", s.errors[0].said]), number(s.blocks), number(s.pit),
-    s.worth ? `${number(s.worth / 1e6, 1)} million ${s.currency}` : "", s.when && when(s.when),
+    s.worth ? `${number(s.worth / 1e6, 1)} million ${s.currency}` : "",
+    s.plan ? chip(...s.plan.said) : "", s.when && when(s.when),
     small("copy", () => copy(s.name), `copy ${s.name}`)]);
   const tables = D.home.tables.map(t => [t.path, size(t.bytes), when(t.when),
     small("begin a study", () => begin({ table: t.path })),
     h("code.typed", `pitplan init ${t.path}`)]);
   return [dropPlace("Drop a table of blocks here", ".csv,.gz", taken), D.naming && naming(),
     studies.length > 0 && card("Studies", table(["study", "how far", "blocks", "best pit, blocks",
-      "worth", "changed", ""], studies, { words: 2 })),
+      "worth", "plan by years", "changed", ""], studies, { words: 2 })),
     tables.length > 0 && card("Tables", table(["table", "size", "written", "", ""], tables)),
     h("p.quiet", written("home"), D.home.manual && h("a", { href: D.home.manual,
       target: "_blank" }, "The manual"))];
@@ -257,13 +258,26 @@ const POINTS = "points: from 8 % to 10 % a year are 2";
 const IFS = { price: [-20, 20, "percent", "prices"], recovery: [-5, 5, "percent", "recoveries"],
   mining: [-10, 10, "percent", "costs of digging"], slope: [-3, 3, "degrees", "slope angles"],
   processing: [-10, 10, "percent", "costs of treating"], discount: [-2, 2, POINTS, "discount"],
+  mining_rate: [-10, 10, "percent", "rate of digging"],
+  mill_rate: [-10, 10, "percent", "rate of milling"],
+  rate: [-10, 10, "percent", "rates of all processes"],
   sink: [-1, 1, "benches a year", "how fast a column of blocks sinks"] };
+/** @param {string} name of a what-if @returns {boolean} whether there is what it changes */
+const isVaried = name => {
+  const processes = valueOf(["economics", "processes"]) ?? [];
+  if (name === "sink") return years().schedule;
+  if (name === "rate") return processes.length > 0;
+  if (name === "mill_rate" && processes.length > 0) return false;
+  const isRate = name === "mining_rate" || name === "mill_rate";
+  const told = years().schedule ? ["schedule", "shells"] : ["shells"];
+  return !isRate || told.some(section => valueOf([section, name]) !== undefined);
+};
 const chosen = { names: ["price", "recovery", "slope"] };
 function whatIf() {
   const { schedule, risk } = D.study.state;
   const box = (name, i) => entry(`if.${name}.${i}`, IFS[name][i], keep(IFS[name], i, value),
     { className: "w5", "aria-label": `${IFS[name][3]} ${i ? "to" : "from"}` });
-  const names = Object.keys(IFS).filter(name => name !== "sink" || years().schedule);
+  const names = Object.keys(IFS).filter(isVaried);
   const rows = names.map(name => [oneOf(`if.${name}`, name, chosen, "names", IFS[name][3]),
     box(name, 0), box(name, 1), IFS[name][2]]);
   const changes = names.filter(name => chosen.names.includes(name))

@@ -1,0 +1,93 @@
+"""The plan by years that was shown last, as ``out/schedule.json`` tells it: found without a search,
+without `pit` and without the model, so that a list of studies can have it."""
+from __future__ import annotations
+
+import hashlib
+import json
+import math
+from collections.abc import Mapping
+from dataclasses import dataclass
+from decimal import Decimal
+from pathlib import Path
+from typing import Any
+
+from ..base import kept_json
+from ..base.next_command import command
+from .search_ends import gap_text
+
+_KINDS: dict[str, kept_json.Holds] = {
+    "is_judged": lambda value: isinstance(value, bool),
+    "npv": kept_json.is_none_or(kept_json.is_amount),
+    "gap_percent": kept_json.is_none_or(kept_json.is_number),
+    "basis": kept_json.is_digest,
+}
+
+
+@dataclass(frozen=True)
+class _LastPlan:
+    """A plan by years.
+
+    Attributes
+    ----------
+    npv : Decimal or None
+        In units of currency; None where a search was ended before it had one.
+    gap : float or None
+        How far it is below the bound, in percent of that; None where there is no bound.
+    is_judged : bool
+        Whether `pit schedule` has judged it: not where a search was stopped.
+    is_stale : bool
+        Whether it is of another model, of other rates or of another [schedule].
+    """
+
+    npv: Decimal | None
+    gap: float | None
+    is_judged: bool
+    is_stale: bool
+
+    def words(self, currency: str) -> str:
+        """What it is worth and how far it is from the best, in words."""
+        if self.npv is None:
+            return "its search was stopped before it had one"
+        gap = "no bound yet" if self.gap is None else f"at most {gap_text(self.gap)} below the best"
+        judged = "" if self.is_judged else ", of a search that was stopped"
+        stale = ", but of other terms or prices than study.toml has now" if self.is_stale else ""
+        return f"net present value {currency} {math.floor(self.npv):,}, {gap}{judged}{stale}"
+
+
+def basis_of(model: str, values: Mapping[str, Any], rates: Mapping[str, Any]) -> dict[str, str]:
+    """What ``schedule.json`` says of what its plan rests on: a digest of the model's key, the values
+    of [schedule], and the rates that [shells] and processes give."""
+    text = json.dumps([model, dict(values), dict(rates)], sort_keys=True, default=str)
+    return {"basis": hashlib.sha256(text.encode()).hexdigest()}
+
+
+def last_plan(
+    study: Path, model: str, values: Mapping[str, Any], rates: Mapping[str, Any]
+) -> _LastPlan | None:
+    """The plan by years that was shown last; None where none was since the model was built.
+
+    Parameters
+    ----------
+    study : Path
+        Its folder.
+    model : str
+        The key of the model that stands there.
+    values, rates : mapping
+        As of `Schedule.of`, as study.toml has them now.
+
+    Raises
+    ------
+    Damaged
+        Where ``schedule.json`` isn't one that `pitplan schedule` writes.
+    """
+    again = f"{command('schedule', study, '--minutes', '0')}, which writes it anew"
+    try:
+        found = kept_json.read(study / "out" / "schedule.json", _KINDS, again)
+    except (FileNotFoundError, NotADirectoryError):
+        return None
+    return _LastPlan(
+        None if found["npv"] is None else Decimal(found["npv"]),
+        found["gap_percent"],
+        found["is_judged"],
+        found["basis"] != basis_of(model, values, rates)["basis"],
+    )

@@ -1,0 +1,84 @@
+"""What `pitplan status` and the desk's list of studies say of a plan by years."""
+import json
+import re
+from decimal import Decimal
+
+import pytest
+
+from pitplan.base.kept_json import Damaged
+from pitplan.desk.work import overview
+from pitplan.schedule.last_plan import basis_of, last_plan
+from planned import built, run
+
+MODEL, VALUES, RATES = "0" * 64, {"years": 6, "mill_rate": [0, 4e5]}, {"discount": 0.08}
+
+
+def written(folder, **facts):
+    """A study with such a schedule.json, of the model and the terms above."""
+    (folder / "out").mkdir()
+    found = {"is_judged": True, "npv": "94571123.25", "gap_percent": 0.0391}
+    text = json.dumps({**found, **basis_of(MODEL, VALUES, RATES), **facts})
+    (folder / "out" / "schedule.json").write_text(text)
+    return folder
+
+
+def test_what_a_plan_is_worth_and_how_far_it_is_from_the_best(tmp_path):
+    found = last_plan(written(tmp_path), MODEL, VALUES, RATES)
+    assert (found.npv, found.gap, found.is_stale) == (Decimal("94571123.25"), 0.0391, False)
+    assert found.words("$") == "net present value $ 94,571,123, at most 0.0391 % below the best"
+
+
+@pytest.mark.parametrize(
+    "model, values, rates",
+    [
+        ("1" * 64, VALUES, RATES),
+        (MODEL, {**VALUES, "mill_rate": [0, 5e5]}, RATES),
+        (MODEL, VALUES, {"discount": 0.1}),
+    ],
+)
+def test_of_another_model_or_other_terms_it_is_stale(tmp_path, model, values, rates):
+    found = last_plan(written(tmp_path), model, values, rates)
+    assert found.is_stale
+    assert found.words("$").endswith(", but of other terms or prices than study.toml has now")
+
+
+def test_a_stopped_search_is_told(tmp_path):
+    found = last_plan(
+        written(tmp_path, npv=None, gap_percent=None, is_judged=False), MODEL, VALUES, RATES
+    )
+    assert found.words("$") == "its search was stopped before it had one"
+
+
+def test_without_a_file_there_is_none_and_a_damaged_one_is_told(tmp_path):
+    assert last_plan(tmp_path, MODEL, VALUES, RATES) is None
+    written(tmp_path, npv="much")
+    with pytest.raises(Damaged, match='schedule.json is damaged: npv is "much"'):
+        last_plan(tmp_path, MODEL, VALUES, RATES)
+
+
+def test_status_and_the_desk_say_whether_there_is_a_plan(tmp_path):
+    folder = built(tmp_path / "s")
+    assert re.search(
+        f"plan by years: none yet; \\S*pitplan schedule {folder} finds one", said(folder)
+    )
+    assert overview(folder)["plan"] is None
+    run("schedule", folder, "--gap", "5", "--minutes", "1")
+    facts = json.loads((folder / "out" / "schedule.json").read_text())
+    worth = int(Decimal(facts["npv"]))
+    line = re.search("plan by years: (.*?) % below the best", said(folder))[1]
+    assert line.startswith(f"net present value $ {worth:,}, at most ")
+    assert float(line.split()[-1]) == pytest.approx(facts["gap_percent"], abs=0.01)
+    plan = overview(folder)["plan"]
+    assert (plan["is_stale"], plan["said"][0]) == (False, "good")
+    assert plan["said"][1].startswith(f"{worth / 1e6:,.1f} million $, at most ")
+    text = (folder / "study.toml").read_text()
+    (folder / "study.toml").write_text(text.replace("mill_rate = 400e3", "mill_rate = 300e3"))
+    assert "of other terms or prices than study.toml has now" in said(folder)
+    plan = overview(folder)["plan"]
+    assert (plan["is_stale"], plan["said"][0]) == (True, "warn")
+    assert plan["said"][1] == f"{worth / 1e6:,.1f} million $, of older terms"
+
+
+def said(folder):
+    """What `pitplan status` prints, in one line."""
+    return " ".join(run("status", folder).split())
