@@ -1140,7 +1140,7 @@ def binding(
         room = asked.room(resource, period) if asked.rates[resource] else 0
         if not room:
             need(line.word(cell) == "", f"{what}: {cell}")
-            binds += [name] if is_full else []  # as before a mill starts
+            binds += [names[resource]] if is_full else []  # as before a mill starts
             continue
         share = tonnes * THOUSAND / room
         need(recheck.is_close(line.number(cell), share, left * share), f"{what}: {cell}")
