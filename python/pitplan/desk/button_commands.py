@@ -14,8 +14,7 @@ from ..views.export.kinds import KINDS
 from .folder import BUNDLE, DESIGNS, Folder
 
 _Fields = Mapping[str, Any]  # what the browser sends with a button, or what is kept of a run
-_RATES = ("mining_rate", "mill_rate", "rate")
-_VARIED = ("price", "recovery", "mining", "processing", "slope", *_RATES, "discount", "sink")
+_VARIED = ("price", "recovery", "mining", "processing", "slope", "discount", "sink")
 _CRS = re.compile(r"(EPSG:\d{4,6})?")
 _CUTS = {"bench": "--bench", "row": "--row", "column": "--column"}
 _AGAIN = ("build", "all")  # runs after which pushbacks and designs are of another model

@@ -67,10 +67,6 @@ def test_what_a_button_runs(root):
     assert typed(what="vary", changes=[["price", -20, 20]]) == [
         "vary hill price=-20..20 --factor 1"
     ]
-    rates = [["mining_rate", -10, 10], ["mill_rate", -5, 5], ["rate", 0, 20]]
-    assert typed(what="vary", changes=rates, schedule=True) == [
-        "vary hill mining_rate=-10..10 mill_rate=-5..5 rate=0..20 --schedule"
-    ]
     changes = [["discount", "-2,5", -0.5], ["sink", -1, 1]]
     by_years = {"what": "vary", "changes": changes, "schedule": True}
     assert typed(**by_years) == ["vary hill discount=-2.5..-0.5 sink=-1..1 --schedule"]

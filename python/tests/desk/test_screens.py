@@ -474,9 +474,6 @@ def test_what_rates_and_a_sink_rate_are_for(browser, desk, folder):
     browser.get(f"{desk.address}/#/sinks/vary")
     browser.click("[id='by.years']")
     browser.sees("how fast a column of blocks sinks", "#main table")
-    browser.sees("rate of digging", "#main table")
-    browser.click("[id='if.mining_rate']")
-    browser.sees("slope=-3..3 mining_rate=-10..10 --schedule", "#main")
 
 
 def test_a_term_that_the_plan_by_years_takes_from_elsewhere_is_shown_in_its_box(browser, desk):

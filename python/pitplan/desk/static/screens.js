@@ -1,8 +1,8 @@
 // The screens: each draws itself from what is known.
 import { amounts, at, button, card, chip, choice, entry, h, having, labelled, look, looks, number,
   size, small, table, tick, tip, value, when } from "./dom.js";
-import { D, agreed, api, ask, byId, draw, faults, file, go, keep, link, queue, say, tab,
-  valueOf } from "./desk.js";
+import { D, agreed, api, ask, byId, draw, faults, file, go, keep, link, queue, say,
+  tab } from "./desk.js";
 import { CALLED, banner, examples, faultBox, fields, mend, set, unused } from "./fields.js";
 import { before, boxes, byYears, chipOf, framed, linesOf, logOf, nameOf, pictures, runner, runsOf,
   years } from "./runs.js";
@@ -258,26 +258,13 @@ const POINTS = "points: from 8 % to 10 % a year are 2";
 const IFS = { price: [-20, 20, "percent", "prices"], recovery: [-5, 5, "percent", "recoveries"],
   mining: [-10, 10, "percent", "costs of digging"], slope: [-3, 3, "degrees", "slope angles"],
   processing: [-10, 10, "percent", "costs of treating"], discount: [-2, 2, POINTS, "discount"],
-  mining_rate: [-10, 10, "percent", "rate of digging"],
-  mill_rate: [-10, 10, "percent", "rate of milling"],
-  rate: [-10, 10, "percent", "rates of all processes"],
   sink: [-1, 1, "benches a year", "how fast a column of blocks sinks"] };
-/** @param {string} name of a what-if @returns {boolean} whether there is what it changes */
-const isVaried = name => {
-  const processes = valueOf(["economics", "processes"]) ?? [];
-  if (name === "sink") return years().schedule;
-  if (name === "rate") return processes.length > 0;
-  if (name === "mill_rate" && processes.length > 0) return false;
-  const isRate = name === "mining_rate" || name === "mill_rate";
-  const told = years().schedule ? ["schedule", "shells"] : ["shells"];
-  return !isRate || told.some(section => valueOf([section, name]) !== undefined);
-};
 const chosen = { names: ["price", "recovery", "slope"] };
 function whatIf() {
   const { schedule, risk } = D.study.state;
   const box = (name, i) => entry(`if.${name}.${i}`, IFS[name][i], keep(IFS[name], i, value),
     { className: "w5", "aria-label": `${IFS[name][3]} ${i ? "to" : "from"}` });
-  const names = Object.keys(IFS).filter(isVaried);
+  const names = Object.keys(IFS).filter(name => name !== "sink" || years().schedule);
   const rows = names.map(name => [oneOf(`if.${name}`, name, chosen, "names", IFS[name][3]),
     box(name, 0), box(name, 1), IFS[name][2]]);
   const changes = names.filter(name => chosen.names.includes(name))
