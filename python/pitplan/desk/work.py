@@ -27,8 +27,7 @@ from ..base.units import Units
 from ..model.grade_tonnage import TITLE
 from ..plans.design import by_ids_of, has_points
 from ..plans.surface import of_dxf
-from ..schedule.last_plan import last_plan
-from ..schedule.search_ends import gap_text
+from ..schedule.last_plan import plan_said
 from ..schedule.terms import wrong_terms
 from ..study.building import near
 from ..study.check import check as checked, model_of
@@ -201,7 +200,7 @@ def overview(study: Path) -> _Json:
         built.refuse_changed(file.path, file.digest, file.table)
     except PlanError as error:
         said = ["warn", "changed since it was built", error.said]
-        return {**answer, "old": error.said, "said": said, "plan": _plan_of(built, {}, {})}
+        return {**answer, "old": error.said, "said": said, "plan": plan_said(built, {}, {})}
     verdicts = {factor: found for factor in file.factors if (found := built.verdict(factor))}
     full, there, of = verdicts.get(THOUSAND), len(verdicts), len(file.factors)
     certified = sum(bool(found["certificate"]) for found in verdicts.values())
@@ -212,28 +211,10 @@ def overview(study: Path) -> _Json:
         "there": there,
         "said": said if there else ["", f"built, {answer['blocks']:,} blocks"],
         "factors": [factor / THOUSAND for factor in verdicts],
-        "plan": _plan_of(built, file.values["schedule"], file.rates),
+        "plan": plan_said(built, file.values["schedule"], file.rates),
         "worth": full and float(full["worth"]),
         "pit": full and full["count"],
     }
-
-
-def _plan_of(built: Study, values: Mapping[str, Any], rates: Mapping[str, Any]) -> _Json | None:
-    """The plan by years of a study, as `overview` says what there is; None where there is none.
-    Without values and rates it is of others."""
-    try:
-        found = last_plan(built.folder, built.key, values, rates)
-    except PlanError as error:
-        return {"said": ["bad", "its file is damaged", error.said], "is_stale": True}
-    if found is None:
-        return None
-    worth = (
-        "none yet" if found.npv is None else f"{found.npv / 10**6:,.1f} million {built.currency}"
-    )
-    gap = "" if found.gap is None else f", at most {gap_text(found.gap)} below the best"
-    kind = "warn" if found.is_stale or not found.is_judged else "good"
-    said = [kind, worth + (", of older terms" if found.is_stale else gap)]
-    return {"said": [*said, found.words(built.currency)], "is_stale": found.is_stale}
 
 
 def kind_of(design: Path, name: str, study: Path) -> _Json:

@@ -9,11 +9,15 @@ from collections.abc import Mapping
 from dataclasses import dataclass
 from decimal import Decimal
 from pathlib import Path
-from typing import Any
+from typing import TYPE_CHECKING, Any
 
 from ..base import kept_json
+from ..base.errors import PlanError
 from ..base.next_command import command
 from .search_ends import gap_text
+
+if TYPE_CHECKING:
+    from ..study.study import Study
 
 _KINDS: dict[str, kept_json.Holds] = {
     "is_judged": lambda value: isinstance(value, bool),
@@ -53,6 +57,12 @@ class _LastPlan:
         stale = ", but of other terms or prices than study.toml has now" if self.is_stale else ""
         return f"net present value {currency} {math.floor(self.npv):,}, {gap}{judged}{stale}"
 
+    def short(self, currency: str) -> str:
+        """What it is worth, and how far it is from the best, or that it is old."""
+        worth = "none yet" if self.npv is None else f"{self.npv / 10**6:,.1f} million {currency}"
+        gap = "" if self.gap is None else f", at most {gap_text(self.gap)} below the best"
+        return worth + (", of older terms" if self.is_stale else gap)
+
 
 def basis_of(model: str, values: Mapping[str, Any], rates: Mapping[str, Any]) -> dict[str, str]:
     """What ``schedule.json`` says of what its plan rests on: a digest of the model's key, the values
@@ -91,3 +101,19 @@ def last_plan(
         found["is_judged"],
         found["basis"] != basis_of(model, values, rates)["basis"],
     )
+
+
+def plan_said(
+    study: Study, values: Mapping[str, Any], rates: Mapping[str, Any]
+) -> list[str] | None:
+    """The plan by years of a study in words, as a list of studies has it: a mark ("good", "warn" where
+    it is old or its search was stopped, "bad" where its file is damaged), in short, and at length;
+    None where there is none. Without values and rates it is of others."""
+    try:
+        found = last_plan(study.folder, study.key, values, rates)
+    except PlanError as error:
+        return ["bad", "its file is damaged", error.said]
+    if found is None:
+        return None
+    is_good = found.is_judged and not found.is_stale
+    return ["good" if is_good else "warn", found.short(study.currency), found.words(study.currency)]

@@ -69,14 +69,15 @@ def test_status_and_the_desk_say_whether_there_is_a_plan(tmp_path):
     assert line.startswith(f"net present value $ {worth:,}, at most ")
     assert float(line.split()[-1]) == pytest.approx(facts["gap_percent"], abs=0.01)
     plan = overview(folder)["plan"]
-    assert (plan["is_stale"], plan["said"][0]) == (False, "good")
-    assert plan["said"][1].startswith(f"{worth / 1e6:,.1f} million $, at most ")
+    assert plan[0] == "good"
+    assert plan[1].startswith(f"{worth / 1e6:,.1f} million $, at most ")
     text = (folder / "study.toml").read_text()
     (folder / "study.toml").write_text(text.replace("mill_rate = 400e3", "mill_rate = 300e3"))
     assert "of other terms or prices than study.toml has now" in said(folder)
     plan = overview(folder)["plan"]
-    assert (plan["is_stale"], plan["said"][0]) == (True, "warn")
-    assert plan["said"][1] == f"{worth / 1e6:,.1f} million $, of older terms"
+    assert plan[:2] == ["warn", f"{worth / 1e6:,.1f} million $, of older terms"]
+    (folder / "out" / "schedule.json").write_text("{}")
+    assert overview(folder)["plan"][:2] == ["bad", "its file is damaged"]
 
 
 def said(folder):

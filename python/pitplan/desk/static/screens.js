@@ -63,9 +63,8 @@ const copy = name => ask("POST", "/api/studies", { copy: name }).then(go);
 export function home() {
   const studies = D.home.studies.map(s => [h("a", { href: link(s.name) }, s.name),
     chip(...s.said ?? ["bad", "can't be read", s.errors[0].said]), number(s.blocks), number(s.pit),
-    s.worth ? `${number(s.worth / 1e6, 1)} million ${s.currency}` : "",
-    s.plan ? chip(...s.plan.said) : "", s.when && when(s.when),
-    small("copy", () => copy(s.name), `copy ${s.name}`)]);
+    s.worth ? `${number(s.worth / 1e6, 1)} million ${s.currency}` : "", s.plan && chip(...s.plan),
+    s.when && when(s.when), small("copy", () => copy(s.name), `copy ${s.name}`)]);
   const tables = D.home.tables.map(t => [t.path, size(t.bytes), when(t.when),
     small("begin a study", () => begin({ table: t.path })),
     h("code.typed", `pitplan init ${t.path}`)]);
