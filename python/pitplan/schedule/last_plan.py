@@ -49,18 +49,20 @@ class _LastPlan:
     is_stale: bool
 
     def words(self, currency: str) -> str:
-        """What it is worth and how far it is from the best, in words."""
+        """What it is worth and how far it is below its bound, in words."""
         if self.npv is None:
             return "its search was stopped before it had one"
-        gap = "no bound yet" if self.gap is None else f"at most {gap_text(self.gap)} below the best"
+        gap = (
+            "no bound yet" if self.gap is None else f"at most {gap_text(self.gap)} below its bound"
+        )
         judged = "" if self.is_judged else ", of a search that was stopped"
         stale = ", but of other terms or prices than study.toml has now" if self.is_stale else ""
         return f"net present value {currency} {math.floor(self.npv):,}, {gap}{judged}{stale}"
 
     def short(self, currency: str) -> str:
-        """What it is worth, and how far it is from the best, or that it is old."""
+        """What it is worth, and how far it is below its bound, or that it is old."""
         worth = "none yet" if self.npv is None else f"{self.npv / 10**6:,.1f} million {currency}"
-        gap = "" if self.gap is None else f", at most {gap_text(self.gap)} below the best"
+        gap = "" if self.gap is None else f", at most {gap_text(self.gap)} below its bound"
         return worth + (", of older terms" if self.is_stale else gap)
 
 

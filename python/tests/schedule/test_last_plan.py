@@ -25,7 +25,7 @@ def written(folder, **facts):
 def test_what_a_plan_is_worth_and_how_far_it_is_from_the_best(tmp_path):
     found = last_plan(written(tmp_path), MODEL, VALUES, RATES)
     assert (found.npv, found.gap, found.is_stale) == (Decimal("94571123.25"), 0.0391, False)
-    assert found.words("$") == "net present value $ 94,571,123, at most 0.0391 % below the best"
+    assert found.words("$") == "net present value $ 94,571,123, at most 0.0391 % below its bound"
 
 
 @pytest.mark.parametrize(
@@ -65,7 +65,7 @@ def test_status_and_the_desk_say_whether_there_is_a_plan(tmp_path):
     run("schedule", folder, "--gap", "5", "--minutes", "1")
     facts = json.loads((folder / "out" / "schedule.json").read_text())
     worth = int(Decimal(facts["npv"]))
-    line = re.search("plan by years: (.*?) % below the best", said(folder))[1]
+    line = re.search("plan by years: (.*?) % below its bound", said(folder))[1]
     assert line.startswith(f"net present value $ {worth:,}, at most ")
     assert float(line.split()[-1]) == pytest.approx(facts["gap_percent"], abs=0.01)
     plan = overview(folder)["plan"]
