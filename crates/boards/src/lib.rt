@@ -14,7 +14,7 @@
 //!
 //! An example: blocks worth 6 and 5 rest on one worth -10. [`finish`] within 1,000 steps ends the run of a board quiet,
 //! and what it settles leaves the pit of all three; within 3 steps the run ends at its limit. Tried in
-//! `machine_tests/src/turn_boards.rt`; with a history, in `machine_tests/src/audited_boards.rt`.
+//! `machine_tests/src/turn_boards.rt`; with a history, in `machine_tests/src/audited_runs.rt`.
 //!
 //! ```rust
 //! TurnBoard::open(alloc, &net).expect(rt, "memory")

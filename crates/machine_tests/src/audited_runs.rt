@@ -1,12 +1,11 @@
-//! Tries whole runs by threads that write down each step: where their histories end, and that all
-//! workers write one history.
+//! Tries whole runs by threads that write down each step: where their histories end, that all workers
+//! write one history, and that its replay leads to the run's flow.
 
-use crate::audited_boards::{FIRST, replays};
-use crate::board_turns::{holds, same};
+use crate::board_turns::{holds, leaves, same};
 use crate::gates::Meeting;
 use crate::small_nets::{sizes_too_large, two_on_dear_waste};
-use async_step::Event;
-use closure_net::Net;
+use async_step::{Event, Kind, replay};
+use closure_net::{Carried, Flow, Net};
 use ordered_group::{OrderedGroup, Scaled, Worth, WorthSize};
 use std::alloc::Global;
 use std::process::Abort;
@@ -18,18 +17,33 @@ use workers::{
     solve_audited,
 };
 
+// How block 0 begins, whose first port is that of the pair, and whose second is the source's.
+const FIRST: [Event; 3] = [
+    Event {
+        block: 0,
+        kind: Kind::ReadExcess,
+    },
+    Event {
+        block: 0,
+        kind: Kind::ReadLabel,
+    },
+    Event {
+        block: 0,
+        kind: Kind::ReadCapacity,
+    },
+];
+
 const UNSETTLED: AuditEnd = AuditEnd::NoFlow(SolveFault::Unsettled);
 
 // The fault of a run of one worker with this limit and this room.
 fn fault_of<R: Abort + Threads + Wait + Sync>(
     rt: &R,
     alloc: Global,
-    workers: u32,
     steps: u64,
     room: u32,
 ) -> AuditFault {
     let net: Net<WorthSize> = two_on_dear_waste(rt, alloc);
-    let run = solve_audited(rt, alloc, &net, workers, steps, room, &OpenGate);
+    let run = solve_audited(rt, alloc, &net, 1, steps, room, &OpenGate);
     fault_in(rt, run)
 }
 
@@ -55,16 +69,8 @@ fn a_history_ends_at_its_room_and_at_the_limit(rt: HostRuntime) {
         (3, 3, UNSETTLED),
     ];
     for (steps, room, end) in ends {
-        let run = fault_of(&rt, rt.alloc(), 1, steps, room);
+        let run = fault_of(&rt, rt.alloc(), steps, room);
         ended(&rt, &run, end, &FIRST);
-    }
-}
-
-#[test]
-fn a_run_that_makes_no_step_has_an_empty_history(rt: HostRuntime) {
-    for workers in [0, 65] {
-        let run = fault_of(&rt, rt.alloc(), workers, 10, 10);
-        ended(&rt, &run, AuditEnd::NoFlow(SolveFault::BadWorkers), &[]);
     }
 }
 
@@ -78,6 +84,44 @@ fn a_stuck_run_has_the_steps_before(rt: HostRuntime) {
     let net = sizes_too_large(&rt, rt.alloc());
     let run = solve_audited(&rt, rt.alloc(), &net, 1, 10_000, 100, &OpenGate);
     has_steps(&rt, fault_in(&rt, run), 24);
+}
+
+// The flow to which a history leads.
+fn replayed(
+    rt: &impl Abort,
+    alloc: Global,
+    net: &Net<WorthSize>,
+    history: &[Event],
+) -> Flow<WorthSize> {
+    let state = replay(alloc, net, history).expect(rt, "steps");
+    state.into_flow(net).ok().expect(rt, "a quiet run")
+}
+
+// Whether the same goes over each arc of a net of three blocks.
+fn are_alike(some: &Carried<WorthSize>, others: &Carried<WorthSize>) -> bool {
+    if some.len() != 3 || others.len() != 3 {
+        return false;
+    }
+    for b in 0..3 {
+        if some.at(b) != others.at(b) {
+            return false;
+        }
+    }
+    true
+}
+
+// The flow leaves all three blocks, and the history leads to it.
+fn replays(
+    rt: &impl Abort,
+    alloc: Global,
+    net: &Net<WorthSize>,
+    flow: &Flow<WorthSize>,
+    history: &[Event],
+) {
+    leaves(rt, alloc, net, flow, &[0, 1, 2]);
+    let again = replayed(rt, alloc, net, history);
+    holds(rt, are_alike(again.source(), flow.source()));
+    holds(rt, are_alike(again.sink(), flow.sink()));
 }
 
 // The run of two workers, who see each other before this turn.

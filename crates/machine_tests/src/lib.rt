@@ -4,8 +4,6 @@
 #![tactic(auto)]
 
 #[cfg(test)]
-mod audited_boards;
-#[cfg(test)]
 mod audited_runs;
 #[cfg(test)]
 mod board_turns;

@@ -1,18 +1,15 @@
 //! Tries single steps of the push-relabel machine against a run that is known from elsewhere, step
 //! by step and state by state, and which steps are refused.
 
-ghost use Rattle.std.specs.Prelude.{◌≤◌};
 ghost use Rattle.async_step.specs.Answers.{IsStateOf};
 
 use crate::board_turns::{carry, holds, same};
+use crate::small_nets::{sizes_too_large, two_on_waste};
 use async_step::{ReplayFault, Saw, State, StepRefusal, replay};
 use closure_net::{Flow, Net};
-use fixed_worth::MOST_BLOCKS;
 use machine_law::{Event, Kind};
 use ordered_group::{OrderedGroup, Worth, WorthSize};
-use prec_file::Rests;
 use std::alloc::Global;
-use std::fmt::Display;
 use std::process::Abort;
 
 const RE: Kind = Kind::ReadExcess;
@@ -93,19 +90,6 @@ fn worth(value: i128) -> Worth {
     Worth {
         nanos: value.wrapping_mul(1_000_000_000),
     }
-}
-
-fn rests(rt: &impl Abort, alloc: Global, n: u32, pairs: &[(u32, u32)]) -> Rests
-    requires { n ≤ MOST_BLOCKS }
-{
-    Rests::from_pairs(alloc, n, pairs).expect(rt, "pairs")
-}
-
-// Two blocks of worth 4 that rest on one of worth -1.
-fn two_on_waste(rt: &impl Abort, alloc: Global) -> Net<Worth> {
-    let rests = rests(rt, alloc, 3, &[(0, 1), (2, 1)]);
-    let nanos = [4_000_000_000, -1_000_000_000, 4_000_000_000];
-    Net::of_worths(alloc, rests, &nanos).expect(rt, "worths")
 }
 
 fn push_steps(rt: &impl Abort, events: &mut Vec<Event>, block: u32, kinds: &[Kind]) {
@@ -196,7 +180,7 @@ fn is_quiet_after(rt: &impl Abort, state: &State<Worth>, steps: u64) {
 #[test]
 fn every_row_of_the_run(rt: HostRuntime) {
     let alloc = rt.alloc();
-    let net = two_on_waste(&rt, alloc);
+    let net: Net<Worth> = two_on_waste(&rt, alloc);
     let mut state = State::open(alloc, &net).expect(&rt, "memory");
     make_rows(&rt, &mut state, &net);
     is_quiet_after(&rt, &state, 140);
@@ -229,7 +213,7 @@ fn flow_after(rt: &impl Abort, alloc: Global, net: &Net<Worth>, events: &[Event]
 #[test]
 fn the_run_ends_in_a_flow(rt: HostRuntime) {
     let alloc = rt.alloc();
-    let net = two_on_waste(&rt, alloc);
+    let net: Net<Worth> = two_on_waste(&rt, alloc);
     let events = run_of_rows(&rt, alloc);
     let flow = flow_after(&rt, alloc, &net, &events);
     is_flow_of_one(&rt, &flow);
@@ -258,17 +242,8 @@ fn a_step_out_of_turn(rt: HostRuntime) {
         0,
         &[RE, RL, RC, RL, RA, RE, RL, RC, RL, GC, GE],
     );
-    let net = two_on_waste(&rt, alloc);
+    let net: Net<Worth> = two_on_waste(&rt, alloc);
     is_refused(&rt, alloc, &net, &events, 11, StepRefusal::OutOfTurn(TE));
-}
-
-// A block and one that it rests on, with sizes that don't fit twice.
-fn large_net(rt: &impl Abort, alloc: Global) -> Net<WorthSize> {
-    let rests = rests(rt, alloc, 2, &[(0, 1)]);
-    let size = i128::MAX;
-    let worths = [WorthSize { nanos: 5, size }, WorthSize { nanos: -4, size }];
-    let worths = Vec::from_slice(alloc, &worths).expect(rt, "memory");
-    Net::build(rests, worths).expect(rt, "net")
 }
 
 // The steps up to the one that doesn't fit.
@@ -318,35 +293,21 @@ fn stays_too_large(rt: &impl Abort, state: &mut State<WorthSize>, net: &Net<Wort
 #[test]
 fn a_sum_too_large(rt: HostRuntime) {
     let alloc = rt.alloc();
-    let net = large_net(&rt, alloc);
-    let events = steps_that_fit(&rt, alloc);
+    let net = sizes_too_large(&rt, alloc);
+    let mut events = steps_that_fit(&rt, alloc);
     let mut state = replay(alloc, &net, &events).expect(&rt, "steps");
     stays_too_large(&rt, &mut state, &net);
-}
-
-#[test]
-fn a_run_with_a_sum_too_large(rt: HostRuntime) {
-    let alloc = rt.alloc();
-    let net = large_net(&rt, alloc);
-    let mut events = steps_that_fit(&rt, alloc);
     push_steps(&rt, &mut events, 1, &[TE]);
     is_refused(&rt, alloc, &net, &events, 25, StepRefusal::TooLarge);
 }
 
 fn has_no_block_3(rt: &impl Abort, state: &mut State<Worth>, net: &Net<Worth>)
     requires { IsStateOf net.now state.old }
+    ensures { IsStateOf net.now state.new }
 {
     let event = Event { block: 3, kind: RE };
     same(rt, state.step(net, event), Err(StepRefusal::NoSuchBlock));
     same(rt, state.count(), 0);
-}
-
-#[test]
-fn no_such_block(rt: HostRuntime) {
-    let alloc = rt.alloc();
-    let net = two_on_waste(&rt, alloc);
-    let mut state = State::open(alloc, &net).expect(&rt, "memory");
-    has_no_block_3(&rt, &mut state, &net);
 }
 
 // A block with four units reads its excess.
@@ -364,40 +325,19 @@ fn wait(rt: &impl Abort, state: &State<Worth>, from_0: Option<u32>, from_1: Opti
     assert_eq!(rt; (state.waiting(0), state.waiting(1)), (from_0, from_1));
 }
 
+// None waits where all that have excess are at work.
 fn wait_in_turn(rt: &impl Abort, state: &mut State<Worth>, net: &Net<Worth>)
     requires { IsStateOf net.now state.old }
+    ensures { IsStateOf net.now state.new }
 {
     wait(rt, state, Some(0), Some(2));
     reads_four(rt, state, net, 2);
     wait(rt, state, Some(0), Some(0));
-}
-
-#[test]
-fn waiting_goes_round(rt: HostRuntime) {
-    let alloc = rt.alloc();
-    let net = two_on_waste(&rt, alloc);
-    let mut state = State::open(alloc, &net).expect(&rt, "memory");
-    wait_in_turn(&rt, &mut state, &net);
-}
-
-// Both blocks that have excess.
-fn are_at_work(rt: &impl Abort, state: &mut State<Worth>, net: &Net<Worth>)
-    requires { IsStateOf net.now state.old }
-{
-    reads_four(rt, state, net, 2);
     reads_four(rt, state, net, 0);
-    same(rt, (state.waiting(1), state.quiet()), (None, false));
+    wait(rt, state, None, None);
 }
 
-#[test]
-fn no_block_waits_where_all_are_at_work(rt: HostRuntime) {
-    let alloc = rt.alloc();
-    let net = two_on_waste(&rt, alloc);
-    let mut state = State::open(alloc, &net).expect(&rt, "memory");
-    are_at_work(&rt, &mut state, &net);
-}
-
-// It stays as it was after one step of block 0.
+// It stays as it was after the first steps of blocks 2 and 0.
 fn is_not_quiet(rt: &impl Abort, state: State<Worth>, net: &Net<Worth>)
     requires { IsStateOf net.now state }
 {
@@ -405,7 +345,7 @@ fn is_not_quiet(rt: &impl Abort, state: State<Worth>, net: &Net<Worth>)
     match state.into_flow(net) {
         Ok(_) => panic!(rt; "a flow of a state that isn't quiet"),
         Err(state) => {
-            same(rt, state.count(), 1);
+            same(rt, state.count(), 2);
             same(rt, state.next_kind(net, 0), RL);
         }
     }
@@ -414,49 +354,9 @@ fn is_not_quiet(rt: &impl Abort, state: State<Worth>, net: &Net<Worth>)
 #[test]
 fn a_state_that_is_not_quiet(rt: HostRuntime) {
     let alloc = rt.alloc();
-    let net = two_on_waste(&rt, alloc);
+    let net: Net<Worth> = two_on_waste(&rt, alloc);
     let mut state = State::open(alloc, &net).expect(&rt, "memory");
-    reads_four(&rt, &mut state, &net, 0);
+    has_no_block_3(&rt, &mut state, &net);
+    wait_in_turn(&rt, &mut state, &net);
     is_not_quiet(&rt, state, &net);
-}
-
-// The text of a value.
-fn prints<D: Display>(rt: &impl Abort, alloc: Global, value: &D, text: &str) {
-    let printed = value.to_string(alloc).expect(rt, "memory");
-    same(rt, printed.as_str(), text);
-}
-
-#[test]
-fn refusals_as_texts(rt: HostRuntime) {
-    let alloc = rt.alloc();
-    let texts = [
-        (StepRefusal::NoSuchBlock, "NoSuchBlock"),
-        (StepRefusal::OutOfTurn(TE), "OutOfTurn(TakeExcess)"),
-        (StepRefusal::TooLarge, "TooLarge"),
-        (StepRefusal::TooManySteps, "TooManySteps"),
-    ];
-    for (refusal, text) in texts {
-        prints(&rt, alloc, &refusal, text);
-    }
-    let fault = ReplayFault::Refused(11, StepRefusal::OutOfTurn(TE));
-    prints(&rt, alloc, &fault, "Refused(11, OutOfTurn(TakeExcess))");
-    prints(&rt, alloc, &ReplayFault::NoMemory, "NoMemory");
-}
-
-#[test]
-fn kinds_as_texts(rt: HostRuntime) {
-    let alloc = rt.alloc();
-    let texts = [
-        (RE, "ReadExcess"),
-        (RC, "ReadCapacity"),
-        (RL, "ReadLabel"),
-        (TC, "TakeCapacity"),
-        (GC, "GiveCapacity"),
-        (TE, "TakeExcess"),
-        (GE, "GiveExcess"),
-        (RA, "RaiseLabel"),
-    ];
-    for (kind, text) in texts {
-        prints(&rt, alloc, &kind, text);
-    }
 }

@@ -46,6 +46,9 @@ fn a_run_ends_where_a_sum_is_too_large(rt: HostRuntime) {
     ends(&rt, &mut board, 1_000, End::Stuck);
     let mut board = board.into_board();
     same(&rt, board.turn(None, 0, 1_000), Turn::Ended(End::Stuck));
+    // it is stuck for every worker, at its limit too
+    let made = board.count();
+    same(&rt, board.turn(Some(1), 1, made), Turn::Ended(End::Stuck));
 }
 
 // The first step of block 1: the operation that it begins goes on.

@@ -46,19 +46,11 @@ where
 }
 
 #[test]
-fn two_on_dear_waste_are_worth_it(rt: HostRuntime) {
+fn runs_leave_the_best_pits(rt: HostRuntime) {
     let net: Net<WorthSize> = two_on_dear_waste(&rt, rt.alloc());
     leaves_the_pit(&rt, rt.alloc(), &net, &[0, 1, 2]);
-}
-
-#[test]
-fn a_block_worth_what_it_costs_stays(rt: HostRuntime) {
     let net: Net<WorthSize> = worth_what_it_costs(&rt, rt.alloc());
     leaves_the_pit(&rt, rt.alloc(), &net, &[]);
-}
-
-#[test]
-fn each_on_the_other_go_together(rt: HostRuntime) {
     let net: Net<WorthSize> = each_on_the_other(&rt, rt.alloc());
     leaves_the_pit(&rt, rt.alloc(), &net, &[0, 1]);
 }
@@ -80,21 +72,21 @@ fn fault_of<R: Abort + Threads + Wait + Sync>(
     solve(rt, alloc, &net, workers, steps, &OpenGate).err()
 }
 
+// There are 1 to 64 workers; a limit is below the run, and one is above all that there are.
 #[test]
-fn there_are_1_to_64_workers(rt: HostRuntime) {
-    let bad = Some(SolveFault::BadWorkers);
-    same(&rt, fault_of(&rt, rt.alloc(), 0, 10_000), bad);
-    same(&rt, fault_of(&rt, rt.alloc(), 65, 10_000), bad);
-    same(&rt, fault_of(&rt, rt.alloc(), 64, 10_000), None);
-    same(&rt, fault_of(&rt, rt.alloc(), 1, 10_000), None);
-}
-
-#[test]
-fn a_limit_below_the_run_and_one_above_all(rt: HostRuntime) {
-    let unsettled = Some(SolveFault::Unsettled);
-    same(&rt, fault_of(&rt, rt.alloc(), 1, 3), unsettled);
-    same(&rt, fault_of(&rt, rt.alloc(), 2, 3), unsettled);
-    same(&rt, fault_of(&rt, rt.alloc(), 2, u64::MAX), None);
+fn faults_of_runs(rt: HostRuntime) {
+    let faults = [
+        (0, 10_000, Some(SolveFault::BadWorkers)),
+        (65, 10_000, Some(SolveFault::BadWorkers)),
+        (64, 10_000, None),
+        (1, 10_000, None),
+        (1, 3, Some(SolveFault::Unsettled)),
+        (2, 3, Some(SolveFault::Unsettled)),
+        (2, u64::MAX, None),
+    ];
+    for (workers, steps, fault) in faults {
+        same(&rt, fault_of(&rt, rt.alloc(), workers, steps), fault);
+    }
 }
 
 #[test]

@@ -121,16 +121,6 @@ fn settled_by_one_thread(
     Ok((words.settle(alloc, seats), all))
 }
 
-#[test]
-fn two_seats_of_one_thread_settle(rt: HostRuntime) -> Result<(), Fail> {
-    let net = two_on_dear_waste(rt.alloc())?;
-    for turns in [20u64, 1_000] {
-        let (settled, _) = settled_by_one_thread(rt.alloc(), &net, turns)?;
-        assert_eq!(rt; settled.is_ok(), turns == 1_000);
-    }
-    Ok(())
-}
-
 // Two on dear waste: before all has arrived no flow is answered, and then the flow of the pit of all three.
 #[test]
 fn public_calls_settle_two_seats_of_one_thread(rt: HostRuntime) -> Result<(), Fail> {
