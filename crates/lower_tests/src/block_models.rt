@@ -49,31 +49,6 @@ fn values(blocks: &BlockModel, block: u32) -> [Option<i64>; 3] {
 }
 
 #[test]
-fn places_of_three_blocks(rt: HostRuntime) -> Result<(), Fail> {
-    let blocks = read_blocks(rt.alloc(), THREE, &[0, 1, 2])?;
-    equal(&rt, (blocks.len(), blocks.columns()), (3, 3));
-    for (block, x, y, z) in &[(0, 0, 0, 0), (1, 0, 0, 1), (2, 1, 0, 1)] {
-        let (x, y, z) = (*x, *y, *z);
-        equal(&rt, place(&blocks, *block), Some(Place { x, y, z }));
-    }
-    Ok(())
-}
-
-#[test]
-fn columns_of_three_blocks(rt: HostRuntime) -> Result<(), Fail> {
-    let blocks = read_blocks(rt.alloc(), THREE, &[0, 1, 2])?;
-    for (block, tonnage, rock, grade) in &[
-        (0, 10_000_000, 4_000_000, 100_000_000),
-        (1, 0, 5_000_000, 80_500_000),
-        (2, 4_000_000, 1_000_000, 60_000_000),
-    ] {
-        let wanted = [Some(*tonnage), Some(*rock), Some(*grade)];
-        equal(&rt, values(&blocks, *block), wanted);
-    }
-    Ok(())
-}
-
-#[test]
 fn no_columns(rt: HostRuntime) -> Result<(), Fail> {
     let none = read_blocks(rt.alloc(), THREE, &[])?;
     equal(&rt, (none.len(), none.columns()), (3, 0));
@@ -119,7 +94,7 @@ fn have_their_faults(
 
 #[test]
 fn faults_of_records(rt: HostRuntime) {
-    let rows: [(&[u8], &[u32], Option<BlocksFault>); 7] = [
+    let rows: [(&[u8], &[u32], Option<BlocksFault>); 10] = [
         (
             b"0 0 0 0 7\n2 0 0 1 7",
             &[0],
@@ -131,13 +106,7 @@ fn faults_of_records(rt: HostRuntime) {
         (b"0 0 0 0 x\n", &[0], Some(BlocksFault::Number(1))),
         (b"\n% x\n0 0 0 0 7 x", &[0], None),
         (b"", &[0], None),
-    ];
-    have_their_faults(&rt, rt.alloc(), &rows);
-}
-
-#[test]
-fn order_within_a_line(rt: HostRuntime) {
-    let rows: [(&[u8], &[u32], Option<BlocksFault>); 3] = [
+        // in the order of a line's fields, and of lines
         (b"5 0 0 0 x", &[0, 1], Some(BlocksFault::Number(1))),
         (b"5 0 0 0 7", &[0, 1], Some(BlocksFault::NoColumn(1))),
         (
@@ -147,46 +116,4 @@ fn order_within_a_line(rt: HostRuntime) {
         ),
     ];
     have_their_faults(&rt, rt.alloc(), &rows);
-}
-
-#[test]
-fn coordinates(rt: HostRuntime) -> Result<(), Fail> {
-    let alloc: Global = rt.alloc();
-    let wide = fault(alloc, b"0 0 2147483648 0", &[]);
-    equal(&rt, wide, Some(BlocksFault::Number(1)));
-    let lowest = read_blocks(alloc, b"0 -2147483648 2147483647 +3", &[])?;
-    let wanted = Place {
-        x: -2_147_483_648,
-        y: 2_147_483_647,
-        z: 3,
-    };
-    equal(&rt, place(&lowest, 0), Some(wanted));
-    Ok(())
-}
-
-// Two lines with a fault each, and a line that is too long.
-fn long_line(alloc: Global) -> Result<Vec<u8>, Fail> {
-    let mut text = Vec::from_slice(alloc, b"0 0 0\n1 0 0 x\n".as_slice())?;
-    text.extend_from_slice(&[b'%'; 65_537])?;
-    Ok(text)
-}
-
-#[test]
-fn long_line_comes_first(rt: HostRuntime) -> Result<(), Fail> {
-    let text = long_line(rt.alloc())?;
-    let found = fault(rt.alloc(), text.as_slice(), &[]);
-    equal(&rt, found, Some(BlocksFault::Text(3)));
-    Ok(())
-}
-
-fn prints(rt: &impl Abort, alloc: Global, fault: BlocksFault, text: &str) -> Result<(), Fail> {
-    let printed = fault.to_string(alloc)?;
-    equal(rt, printed.as_str(), text);
-    Ok(())
-}
-
-#[test]
-fn printed_faults(rt: HostRuntime) -> Result<(), Fail> {
-    prints(&rt, rt.alloc(), BlocksFault::Text(4), "Text(4)")?;
-    prints(&rt, rt.alloc(), BlocksFault::NoMemory, "NoMemory")
 }

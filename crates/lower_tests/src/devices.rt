@@ -116,23 +116,6 @@ fn a_failing_input_is_a_device_fault(rt: HostRuntime) {
     }
 }
 
-// The length of a text that is read from memory.
-fn read_from_memory(alloc: Global, text: &[u8], limit: u64) -> Result<usize, InputFault> {
-    match read_whole(alloc, &mut Counted::new(text), limit) {
-        Ok(read) => Ok(read.len()),
-        Err(fault) => Err(fault),
-    }
-}
-
-#[test]
-fn an_input_longer_than_one_read_is_whole(rt: HostRuntime) -> Result<(), Fail> {
-    let long = vec![in rt.alloc(); 7u8; 200_000]?;
-    assert!(rt; read_from_memory(rt.alloc(), &long, 200_000) == Ok(200_000));
-    assert!(rt; read_from_memory(rt.alloc(), &long, 199_999) == Err(InputFault::InputTooLong));
-    assert!(rt; read_from_memory(rt.alloc(), &long, u64::MAX) == Ok(200_000));
-    Ok(())
-}
-
 // What a writer received of ten bytes, and whether all were sent.
 fn sent(alloc: Global, fails_at: u64, failure: Failure) -> (Result<(), WriteFault>, Vec<u8>) {
     let mut out = Counted::new(Failing::new(Vec::new(alloc), 3, fails_at, failure));
@@ -141,13 +124,9 @@ fn sent(alloc: Global, fails_at: u64, failure: Failure) -> (Result<(), WriteFaul
 }
 
 #[test]
-fn a_short_writer_gets_the_whole_text(rt: HostRuntime) {
+fn a_short_writer_has_the_text_and_a_failing_one_a_prefix(rt: HostRuntime) {
     let (answer, received) = sent(rt.alloc(), 0, Failure::Broken);
     assert!(rt; answer == Ok(()) && received.as_slice() == b"0123456789".as_slice());
-}
-
-#[test]
-fn a_failing_writer_has_a_prefix(rt: HostRuntime) {
     for failure in [Failure::Broken, Failure::Interrupted, Failure::TakesNothing] {
         for (fails_at, want) in [(1, "".as_bytes()), (2, b"012"), (4, b"012345678")] {
             let (answer, received) = sent(rt.alloc(), fails_at, failure);
@@ -218,21 +197,4 @@ fn a_page_gathers_short_pieces(rt: HostRuntime) -> Result<(), Fail> {
     assert!(rt; device.received.starts_with(b"0 1 2 3 4\n0 1 2 3 4\n"));
     assert!(rt; device.received.ends_with(b"55end\n"));
     Ok(())
-}
-
-// What a writer received of a page of four bytes, at which it fails.
-fn page_at_a_failing_writer(alloc: Global) -> (Result<(), WriteFault>, Vec<u8>) {
-    let mut out = Counted::new(Failing::new(Vec::new(alloc), 3, 2, Failure::Broken));
-    let mut page = Page::new();
-    let answer = match page.put(&mut out, b"0123") {
-        Ok(()) => page.finish(&mut out),
-        Err(fault) => Err(fault),
-    };
-    (answer, out.into_inner().into_inner())
-}
-
-#[test]
-fn a_page_meets_a_failing_writer(rt: HostRuntime) {
-    let (answer, received) = page_at_a_failing_writer(rt.alloc());
-    assert!(rt; answer == Err(WriteFault::Device) && received.as_slice() == b"012".as_slice());
 }

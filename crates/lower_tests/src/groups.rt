@@ -1,14 +1,12 @@
 //! Tries sums and differences of amounts at the ends of their numbers, their order, and the numbers
-//! and words that certificates have for them.
+//! that certificates have for them.
 
 use ordered_group::{
-    Group, OrderedGroup, Worth, WorthSize, at_most, is_zero, laws, negative_part, positive_part,
-    same, smaller, try_sum, zeros,
+    Group, OrderedGroup, Scaled, Worth, WorthSize, at_most, laws, negative_part, positive_part,
+    same, smaller, try_sum,
 };
-use std::alloc::Global;
 use std::fmt::Debug;
 use std::process::Abort;
-use std::test::Fail;
 
 const MOST: i128 = i128::MAX;
 
@@ -28,7 +26,7 @@ fn pair(nanos: i128, size: i128) -> WorthSize {
 }
 
 #[test]
-fn sums_of_worths_at_the_ends(rt: HostRuntime) {
+fn worths_at_the_ends(rt: HostRuntime) {
     for (one, other, sum) in &[
         (MOST - 1, 1, Some(worth(MOST))),
         (MOST, 1, None),
@@ -36,10 +34,6 @@ fn sums_of_worths_at_the_ends(rt: HostRuntime) {
     ] {
         equal(&rt, worth(*one).try_add(worth(*other)), *sum);
     }
-}
-
-#[test]
-fn differences_of_worths_at_the_ends(rt: HostRuntime) {
     for (one, other, difference) in &[
         (LEAST + 1, 1, Some(worth(LEAST))),
         (LEAST, 1, None),
@@ -51,7 +45,7 @@ fn differences_of_worths_at_the_ends(rt: HostRuntime) {
 }
 
 #[test]
-fn sums_of_pairs_at_the_ends(rt: HostRuntime) {
+fn pairs_at_the_ends(rt: HostRuntime) {
     for (one, other, sum) in &[
         (pair(MOST, 0), pair(1, 0), None),
         (pair(0, MOST), pair(0, 1), None),
@@ -64,10 +58,6 @@ fn sums_of_pairs_at_the_ends(rt: HostRuntime) {
     ] {
         equal(&rt, one.try_add(*other), *sum);
     }
-}
-
-#[test]
-fn differences_of_pairs_at_the_ends(rt: HostRuntime) {
     for (one, other, difference) in &[
         (pair(LEAST, 0), pair(1, 0), None),
         (pair(5, MOST), pair(4, -MOST), None),
@@ -116,26 +106,6 @@ fn parts_of_either_sign(rt: HostRuntime) {
     equal(&rt, negative_part(pair(3, LEAST)), None);
 }
 
-// A list of so many zeros is this list.
-fn zeros_are(rt: &impl Abort, alloc: Global, n: u32, list: &[WorthSize]) -> Result<(), Fail> {
-    let made: Vec<WorthSize> = zeros(alloc, n)?;
-    equal(rt, made.as_slice(), list);
-    Ok(())
-}
-
-#[test]
-fn lists_of_zeros(rt: HostRuntime) -> Result<(), Fail> {
-    zeros_are(&rt, rt.alloc(), 0, &[])?;
-    zeros_are(&rt, rt.alloc(), 1, &[pair(0, 0)])?;
-    zeros_are(&rt, rt.alloc(), 3, &[pair(0, 0), pair(0, 0), pair(0, 0)])?;
-    equal(&rt, is_zero(pair(0, 0)), true);
-    equal(&rt, is_zero(pair(0, -1)), false);
-    equal(&rt, is_zero(pair(1, 0)), false);
-    equal(&rt, is_zero(pair(1, -1)), false);
-    assert!(rt; is_zero(worth(0)) && !is_zero(worth(-1)));
-    Ok(())
-}
-
 #[test]
 fn blocks_and_their_numbers(rt: HostRuntime) {
     equal(&rt, Worth::of_block(-7, 3), Some(worth(-7)));
@@ -158,24 +128,11 @@ fn laws_at_each_group(rt: HostRuntime) {
     laws::block_amounts_tell_worth::<Worth>();
     laws::block_amounts_tell_worth::<WorthSize>();
     laws::set_sums_order_sets::<WorthSize>();
+    laws::set_sums_tell_worth::<Scaled>();
+    laws::block_amounts_tell_worth::<Scaled>();
+    laws::set_sums_order_sets::<Scaled>();
     laws::values_are_ordered_as_amounts(worth(5), worth(6));
     laws::values_are_ordered_as_amounts(pair(5, -3), pair(5, -2));
+    laws::values_are_ordered_as_amounts(Scaled { units: 5 }, Scaled { units: 6 });
     assert!(rt; worth(5) < worth(6));
-}
-
-// A group is printed as this word, which is read as the group.
-fn has_word(rt: &impl Abort, alloc: Global, group: Group, word: &str) -> Result<(), Fail> {
-    let text = format!(in alloc; "{group}")?;
-    equal(rt, text.as_str(), word);
-    equal(rt, Group::of_word(word.as_bytes()), Some(group));
-    Ok(())
-}
-
-#[test]
-fn words_of_the_kinds(rt: HostRuntime) -> Result<(), Fail> {
-    has_word(&rt, rt.alloc(), Group::Worth, "WORTH")?;
-    has_word(&rt, rt.alloc(), Group::Pair, "PAIR")?;
-    has_word(&rt, rt.alloc(), Group::Scaled, "SCALED")?;
-    equal(&rt, Group::of_word(b"scaled"), None);
-    Ok(())
 }

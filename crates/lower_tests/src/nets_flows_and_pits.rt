@@ -1,12 +1,13 @@
-//! Tries small nets: which blocks the source reaches by a flow, which blocks a pit holds, what each pair
-//! carries, which arcs a block has, and which nets are refused.
+//! Tries small nets: which blocks the source reaches by a flow, which blocks a pit holds, which arcs a
+//! block has, and which nets are refused.
 
 ghost use Rattle.std.specs.Prelude.{◌≤◌};
 
-use closure_net::{Carried, Flow, Graph, GraphRef, Net, NetFault, Pit, Port, PortKind, pit_of};
+use crate::prec_reading::has_pairs;
+use closure_net::{Carried, Flow, Net, NetFault, Pit, Port, PortKind, pit_of};
 use fixed_worth::MOST_BLOCKS;
 use ordered_group::{Scaled, Worth, WorthSize};
-use prec_file::{Rests, read_listed};
+use prec_file::Rests;
 use std::alloc::Global;
 use std::process::Abort;
 use std::test::Fail;
@@ -100,61 +101,6 @@ fn all_blocks_are_reached(rt: HostRuntime) -> Result<(), Fail> {
     reaches_by(&rt, alloc, &net, (&source, &rest, &sink), &[0, 1, 2])
 }
 
-// Whether a graph is that of two blocks of worth that rest on a block of waste.
-fn is_two_on_waste(graph: &GraphRef<'_, WorthSize>) -> bool {
-    if graph.len() != 3 {
-        return false;
-    }
-    graph.worth(0) == amount(6, -1)
-        && graph.positive(2) == amount(0, 0)
-        && graph.negative(2) == amount(10, 1)
-        && graph.predecessors().above(1) == [2].as_slice()
-        && graph.worths().len() == 3
-}
-
-// The graph of two blocks of worth that rest on a block of waste, whose pairs are read from a text.
-fn graph_of_text(alloc: Global) -> Result<Graph<WorthSize>, Fail> {
-    let listed = read_listed(alloc, b"0 1 2\n1 1 2\n", 3)?;
-    let predecessors = listed.into_predecessors(alloc)?;
-    Ok(
-        Graph::of_worths(alloc, predecessors, &[6, 5, -10])
-            .ok()
-            .ok_or("worths")?,
-    )
-}
-
-fn graph_tells(alloc: Global) -> Result<bool, Fail> {
-    let graph = graph_of_text(alloc)?;
-    Ok(is_two_on_waste(&graph.as_ref()))
-}
-
-fn net_tells(alloc: Global) -> Result<bool, Fail> {
-    let net = two_on_waste(alloc, &[6, 5, -10])?;
-    Ok(is_two_on_waste(&net.graph()))
-}
-
-#[test]
-fn a_graph_tells_its_blocks(rt: HostRuntime) -> Result<(), Fail> {
-    assert!(rt; graph_tells(rt.alloc())?);
-    assert!(rt; net_tells(rt.alloc())?);
-    Ok(())
-}
-
-// Whether a pit tells that it has the blocks 0, 1 and 2.
-fn tells_its_blocks(pit: &Pit) -> bool {
-    if pit.len() != 3 {
-        return false;
-    }
-    pit.holds(1) && !pit.holds(3) && !pit.is_empty() && pit.at(2) == 2
-}
-
-#[test]
-fn a_pit_tells_its_blocks(rt: HostRuntime) -> Result<(), Fail> {
-    let pit = pit(rt.alloc(), &[0, 1, 2])?;
-    assert!(rt; tells_its_blocks(&pit));
-    Ok(())
-}
-
 #[test]
 fn no_block_is_reached(rt: HostRuntime) -> Result<(), Fail> {
     let alloc = rt.alloc();
@@ -179,113 +125,15 @@ fn found_from(pit: &Pit, start: usize) -> bool {
     true
 }
 
-// Any place gives the same answer.
+// Any place gives the same answer, and the one after a block that is found is left.
 #[test]
 fn blocks_are_found_from_any_place(rt: HostRuntime) -> Result<(), Fail> {
     let pit = pit(rt.alloc(), &[1, 2, 5, 9])?;
     for start in 0..7 {
         assert!(rt; found_from(&pit, start));
     }
-    Ok(())
-}
-
-#[test]
-fn a_search_leaves_the_place_after_the_block(rt: HostRuntime) -> Result<(), Fail> {
-    let pit = pit(rt.alloc(), &[1, 2, 5, 9])?;
     let mut place = 0;
     assert!(rt; pit.holds_near(&mut place, 5) && place == 3);
-    Ok(())
-}
-
-// Sets each of these pairs, one after the other, as far as there are as many.
-fn set_these(carried: &mut Carried<WorthSize>, amounts: &[(u32, WorthSize)]) -> Result<(), Fail> {
-    for (pair, amount) in amounts {
-        if *pair as usize >= carried.len() {
-            return Ok(());
-        }
-        carried.set(*pair, *amount)?;
-    }
-    Ok(())
-}
-
-// Whether there are as many pairs as these, and each carries its amount.
-fn carries(carried: &Carried<WorthSize>, amounts: &[(u32, WorthSize)]) -> bool {
-    if carried.len() != amounts.len() {
-        return false;
-    }
-    for (pair, amount) in amounts {
-        if *pair as usize >= carried.len() || carried.at(*pair) != *amount {
-            return false;
-        }
-    }
-    true
-}
-
-#[test]
-fn few_pairs_carry_something(rt: HostRuntime) -> Result<(), Fail> {
-    let mut carried: Carried<WorthSize> = Carried::nothing(rt.alloc(), 3)?;
-    let amounts = [(1, amount(5, -1)), (2, amount(7, -2)), (1, amount(6, -1))];
-    set_these(&mut carried, &amounts)?;
-    let wanted = [(0, amount(0, 0)), (1, amount(6, -1)), (2, amount(7, -2))];
-    assert!(rt; carries(&carried, &wanted));
-    Ok(())
-}
-
-// Sets each of so many pairs to its number, as far as there are as many.
-fn set_each(carried: &mut Carried<WorthSize>, pairs: u32) -> Result<(), Fail> {
-    for pair in 0..pairs {
-        if pair as usize >= carried.len() {
-            return Ok(());
-        }
-        carried.set(pair, amount(pair as i128, -1))?;
-    }
-    Ok(())
-}
-
-// Whether there are so many pairs at least, of which each carries its number.
-fn carries_each(carried: &Carried<WorthSize>, pairs: u32) -> bool {
-    for pair in 0..pairs {
-        if pair as usize >= carried.len() || carried.at(pair) != amount(pair as i128, -1) {
-            return false;
-        }
-    }
-    true
-}
-
-#[test]
-fn thousands_of_pairs_carry_something(rt: HostRuntime) -> Result<(), Fail> {
-    let mut carried: Carried<WorthSize> = Carried::nothing(rt.alloc(), 3000)?;
-    set_each(&mut carried, 3000)?;
-    set_each(&mut carried, 3000)?;
-    assert!(rt; carries_each(&carried, 3000));
-    Ok(())
-}
-
-#[test]
-fn all_pairs_carry_something(rt: HostRuntime) -> Result<(), Fail> {
-    let amounts = Vec::from_slice(rt.alloc(), &[amount(1, 0), amount(2, 0)])?;
-    let mut carried = Carried::from_list(amounts);
-    set_these(&mut carried, &[(0, amount(3, 0))])?;
-    assert!(rt; carries(&carried, &[(0, amount(3, 0)), (1, amount(2, 0))]));
-    Ok(())
-}
-
-// Whether a net tells its numbers and its amounts as those of two blocks of worth that rest on a block of waste.
-fn tells_its_parts(net: &Net<WorthSize>) -> bool {
-    if net.len() != 3 || net.worths().len() != 3 || net.rests().pairs() != 2 {
-        return false;
-    }
-    net.worth(2) == amount(-10, -1)
-        && net.positive(0) == amount(6, -1)
-        && net.positive(2) == amount(0, 0)
-        && net.negative(0) == amount(0, 0)
-        && net.negative(2) == amount(10, 1)
-}
-
-#[test]
-fn a_net_tells_its_parts(rt: HostRuntime) -> Result<(), Fail> {
-    let net = two_on_waste(rt.alloc(), &[6, 5, -10])?;
-    assert!(rt; tells_its_parts(&net));
     Ok(())
 }
 
@@ -312,18 +160,10 @@ fn a_copy_is_the_same(rt: HostRuntime) -> Result<(), Fail> {
     Ok(())
 }
 
-// Whether there are three blocks and these two pairs.
-fn has_two_pairs(rests: &Rests, first: (u32, u32), second: (u32, u32)) -> bool {
-    if rests.len() != 3 || rests.pairs() != 2 {
-        return false;
-    }
-    rests.pair(0) == first && rests.pair(1) == second
-}
-
 #[test]
 fn a_net_gives_its_pairs_back(rt: HostRuntime) -> Result<(), Fail> {
     let rests = two_on_waste(rt.alloc(), &[6, 5, -10])?.into_rests();
-    assert!(rt; has_two_pairs(&rests, (0, 2), (1, 2)));
+    assert!(rt; has_pairs(&rests, 3, &[(0, 2), (1, 2)]));
     Ok(())
 }
 
@@ -357,13 +197,6 @@ fn a_pit_goes_up(rt: HostRuntime) -> Result<(), Fail> {
     assert!(rt; !is_pit(rt.alloc(), &[0, 2, 2])?);
     assert!(rt; !is_pit(rt.alloc(), &[1, 0])?);
     assert!(rt; is_pit(rt.alloc(), &[0, 2, 5])?);
-    Ok(())
-}
-
-#[test]
-fn faults_are_printed(rt: HostRuntime) -> Result<(), Fail> {
-    let text = NetFault::TooLarge.to_string(rt.alloc())?;
-    assert_eq!(rt; text.as_str(), "TooLarge");
     Ok(())
 }
 

@@ -4,7 +4,6 @@
 // Devices of the tests' own claim nothing of their bytes, so what they received is asserted as the tests run.
 ghost use Rattle.std.specs.Prelude.{◌≤◌};
 
-use crate::prec_reading::prints;
 use counted_devices::{Counted, CountedWrite};
 use prec_file::{PrecWriteFault, Rests, read_listed, read_prec, write_prec, write_predecessors};
 use std::alloc::Global;
@@ -71,13 +70,6 @@ fn predecessors_alone_are_written(rt: HostRuntime) -> Result<(), Fail> {
 fn each_block_has_its_line(rt: HostRuntime) -> Result<(), Fail> {
     let rests = Rests::from_pairs(rt.alloc(), 3, &[(1, 2), (2, 0)])?;
     writes(&rt, rt.alloc(), &rests, Ok(()), b"0 0\n1 1 2\n2 1 0\n");
-    Ok(())
-}
-
-#[test]
-fn no_blocks_no_text(rt: HostRuntime) -> Result<(), Fail> {
-    let rests = Rests::from_pairs(rt.alloc(), 0, &[])?;
-    writes(&rt, rt.alloc(), &rests, Ok(()), b"");
     Ok(())
 }
 
@@ -152,10 +144,4 @@ fn a_failing_writer_has_a_prefix(rt: HostRuntime) -> Result<(), Fail> {
         leaves_a_prefix(&rt, rt.alloc(), &rests, fails_at);
     }
     Ok(())
-}
-
-#[test]
-fn printed_write_faults(rt: HostRuntime) -> Result<(), Fail> {
-    prints(&rt, rt.alloc(), PrecWriteFault::TooWide(3), "TooWide(3)")?;
-    prints(&rt, rt.alloc(), PrecWriteFault::Device, "Device")
 }

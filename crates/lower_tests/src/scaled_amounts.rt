@@ -2,7 +2,7 @@
 //! they tell of sets of blocks.
 
 use crate::groups::equal;
-use ordered_group::{Group, OrderedGroup, Scaled, laws};
+use ordered_group::{Group, OrderedGroup, Scaled};
 
 const MOST: i128 = i128::MAX;
 
@@ -69,13 +69,4 @@ fn units_and_their_numbers(rt: HostRuntime) {
     equal(&rt, Scaled::from_parts(-7, 0), Some(scaled(-7)));
     equal(&rt, Scaled::from_parts(-7, 1), None);
     assert!(rt; Scaled::group() == Group::Scaled);
-}
-
-#[test]
-fn laws_of_units(rt: HostRuntime) {
-    laws::set_sums_tell_worth::<Scaled>();
-    laws::block_amounts_tell_worth::<Scaled>();
-    laws::set_sums_order_sets::<Scaled>();
-    laws::values_are_ordered_as_amounts(scaled(5), scaled(6));
-    assert!(rt; scaled(5) < scaled(6));
 }

@@ -1,5 +1,6 @@
-//! Tries what is read from settings with every key and with none, and with what faults other texts are refused.
+//! Tries what is read from settings with every key and of several ways, and with what faults other texts are refused.
 
+use crate::texts_and_numbers::prints;
 use settings_file::{Key, SettingsFault, WayColumns, read_settings};
 use std::alloc::Global;
 use std::process::Abort;
@@ -34,52 +35,6 @@ fn every_key(rt: HostRuntime) -> Result<(), Fail> {
 }
 
 #[test]
-fn no_key(rt: HostRuntime) -> Result<(), Fail> {
-    let settings = read_settings(rt.alloc(), b"").ok().ok_or("read")?;
-    assert!(rt; settings.revenue().is_none() && settings.cost().is_none());
-    assert!(rt; settings.tonnes().is_none() && settings.factors().is_none());
-    assert!(rt; settings.report().is_none() && settings.offsets().is_none());
-    assert!(rt; settings.processing().is_none() && settings.mining().is_none());
-    assert!(rt; !settings.names_mill());
-    Ok(())
-}
-
-#[test]
-fn keys_of_a_mill(rt: HostRuntime) -> Result<(), Fail> {
-    let text = b"revenue = 0\nprocessing = 1\nmining = 65535";
-    let settings = read_settings(rt.alloc(), text).ok().ok_or("read")?;
-    assert_eq!(rt; settings.processing(), Some(1));
-    assert_eq!(rt; settings.mining(), Some(65_535));
-    assert!(rt; settings.names_mill() && settings.cost().is_none());
-    assert!(rt; settings.says(Key::Mining) && !settings.says(Key::Tonnes));
-    Ok(())
-}
-
-#[test]
-fn costs_beside_a_mill(rt: HostRuntime) {
-    let bad = Some(SettingsFault::BadValue(Key::Cost));
-    let rows: [(&[u8], Option<SettingsFault>); 7] = [
-        (b"cost = 1\nmining = 1", bad),
-        (b"revenue = 0\nprocessing = 1\ncost = 2", bad),
-        (b"mining = -1\ncost = 1", bad),
-        (
-            b"revenue = -1\ncost = 1\nmining = 1",
-            Some(SettingsFault::BadValue(Key::Revenue)),
-        ),
-        (
-            b"processing = -1\nmining = 65536",
-            Some(SettingsFault::BadValue(Key::Processing)),
-        ),
-        (
-            b"mining = 65536\noffsets = 1",
-            Some(SettingsFault::BadValue(Key::Offsets)),
-        ),
-        (b"mining = 1", None),
-    ];
-    have_their_faults(&rt, rt.alloc(), &rows);
-}
-
-#[test]
 fn ways_to_treat_blocks(rt: HostRuntime) -> Result<(), Fail> {
     let text =
         b"mining = 4\n[[ways]]\nprocessing = 6\nrevenue = 5\n[[ways]]\nrevenue = 65535\nprocessing = 6";
@@ -100,60 +55,8 @@ fn ways_to_treat_blocks(rt: HostRuntime) -> Result<(), Fail> {
 }
 
 #[test]
-fn bad_ways(rt: HostRuntime) {
-    let bad = Some(SettingsFault::BadValue(Key::Ways));
-    let rows: [(&[u8], Option<SettingsFault>); 14] = [
-        (b"ways = []", bad),
-        (b"ways = 1", bad),
-        (b"ways = {revenue = 1, processing = 2}", bad),
-        (b"ways = [[1, 2]]", bad),
-        (b"ways = [{revenue = 1, processing = 2}, 3]", bad),
-        (b"ways = [{}]", bad),
-        (b"ways = [{revenue = 1}]", bad),
-        (b"ways = [{processing = 1}]", bad),
-        (b"ways = [{revenue = 1, processing = 2, mining = 3}]", bad),
-        (b"ways = [{revenue = 65536, processing = 2}]", bad),
-        (
-            b"ways = [{revenue = 1, processing = 2}, {revenue = 1, processing = -1}]",
-            bad,
-        ),
-        (b"ways = []\nup = 1", Some(SettingsFault::BadValue(Key::Up))),
-        (b"cost = 1\nways = [{revenue = 1, processing = 2}]", None),
-        (
-            b"cost = 1\nmining = 2\nways = []",
-            Some(SettingsFault::BadValue(Key::Cost)),
-        ),
-    ];
-    have_their_faults(&rt, rt.alloc(), &rows);
-}
-
-// As many ways as asked for.
-fn counted_ways(alloc: Global, count: usize) -> Result<Vec<u8>, Fail> {
-    repeated(
-        alloc,
-        b"ways = [",
-        b"{revenue = 0, processing = 1},",
-        count,
-        b"]",
-    )
-}
-
-#[test]
-fn at_most_8_ways(rt: HostRuntime) -> Result<(), Fail> {
-    let most = counted_ways(rt.alloc(), 8)?;
-    assert_eq!(rt; fault(rt.alloc(), most.as_slice()), None);
-    let more = counted_ways(rt.alloc(), 9)?;
-    assert_eq!(rt;
-        fault(rt.alloc(), more.as_slice()),
-        Some(SettingsFault::BadValue(Key::Ways))
-    );
-    Ok(())
-}
-
-#[test]
-fn no_documents(rt: HostRuntime) {
-    let rows: [(&[u8], Option<SettingsFault>); 7] = [
-        (b"= 3", Some(SettingsFault::NotToml)),
+fn no_settings(rt: HostRuntime) {
+    let rows: [(&[u8], Option<SettingsFault>); 11] = [
         (b"revenue = 1\nrevenue = 1", Some(SettingsFault::NotToml)),
         (
             b"revenue = 9223372036854775808",
@@ -163,14 +66,6 @@ fn no_documents(rt: HostRuntime) {
         (b"# \xff", Some(SettingsFault::NotToml)),
         (b"\"revenue\" = 3", None),
         (b"\xef\xbb\xbfrevenue = 3", None),
-    ];
-    have_their_faults(&rt, rt.alloc(), &rows);
-}
-
-#[test]
-fn unknown_keys(rt: HostRuntime) {
-    let rows: [(&[u8], Option<SettingsFault>); 6] = [
-        (b"colour = 1", Some(SettingsFault::UnknownKey)),
         (b"process = 1", Some(SettingsFault::UnknownKey)),
         (b"minings = 1", Some(SettingsFault::UnknownKey)),
         (b"Revenue = 1", Some(SettingsFault::UnknownKey)),
@@ -183,16 +78,21 @@ fn unknown_keys(rt: HostRuntime) {
 #[test]
 fn bad_numbers(rt: HostRuntime) {
     let revenue = Some(SettingsFault::BadValue(Key::Revenue));
-    let rows: [(&[u8], Option<SettingsFault>); 10] = [
-        (b"revenue = -1", revenue),
+    let cost = Some(SettingsFault::BadValue(Key::Cost));
+    let rows: [(&[u8], Option<SettingsFault>); 12] = [
         (b"revenue = 1.0", revenue),
-        (b"revenue = 65536", revenue),
         (b"revenue = \"1\"", revenue),
         (b"[revenue]\na = 1", revenue),
         (b"cost = true\nrevenue = []", revenue),
+        (b"cost = 4294967296\ntonnes = -1", cost),
+        (b"mining = -1\ncost = 1", cost),
         (
-            b"cost = 4294967296\ntonnes = -1",
-            Some(SettingsFault::BadValue(Key::Cost)),
+            b"processing = -1\nmining = 65536",
+            Some(SettingsFault::BadValue(Key::Processing)),
+        ),
+        (
+            b"mining = 65536\noffsets = 1",
+            Some(SettingsFault::BadValue(Key::Offsets)),
         ),
         (
             b"factors = []\ntonnes = 65536",
@@ -203,40 +103,32 @@ fn bad_numbers(rt: HostRuntime) {
             Some(SettingsFault::BadValue(Key::Report)),
         ),
         (b"report = 10000", None),
+        (b"mining = 1", None),
     ];
     have_their_faults(&rt, rt.alloc(), &rows);
 }
 
 #[test]
-fn bad_factors(rt: HostRuntime) {
-    let bad = Some(SettingsFault::BadValue(Key::Factors));
-    let rows: [(&[u8], Option<SettingsFault>); 9] = [
-        (b"factors = []", bad),
-        (b"factors = 1000", bad),
-        (b"factors = [2, 1]", bad),
-        (b"factors = [1, 3, 3]", bad),
-        (b"factors = [10001]", bad),
-        (b"factors = [-1, 0]", bad),
-        (b"factors = [1, 2.5]", bad),
+fn bad_lists(rt: HostRuntime) {
+    let factors = Some(SettingsFault::BadValue(Key::Factors));
+    let offsets = Some(SettingsFault::BadValue(Key::Offsets));
+    let rows: [(&[u8], Option<SettingsFault>); 13] = [
+        (b"factors = []", factors),
+        (b"factors = 1000", factors),
+        (b"factors = [1, 3, 3]", factors),
+        (b"factors = [10001]", factors),
+        (b"factors = [-1, 0]", factors),
+        (b"factors = [1, 2.5]", factors),
         (
             b"factors = [1, 2]\nreport = -1",
             Some(SettingsFault::BadValue(Key::Report)),
         ),
         (b"factors = [1000]", None),
-    ];
-    have_their_faults(&rt, rt.alloc(), &rows);
-}
-
-#[test]
-fn bad_offsets(rt: HostRuntime) {
-    let bad = Some(SettingsFault::BadValue(Key::Offsets));
-    let rows: [(&[u8], Option<SettingsFault>); 6] = [
-        (b"offsets = 1", bad),
-        (b"offsets = [1, 2, 3]", bad),
-        (b"offsets = [[1, 2, 3], [1, 2]]", bad),
-        (b"offsets = [[1, 2, 3, 4]]", bad),
-        (b"offsets = [[-2147483649, 0, 1]]", bad),
-        (b"offsets = []", None),
+        (b"offsets = 1", offsets),
+        (b"offsets = [1, 2, 3]", offsets),
+        (b"offsets = [[1, 2, 3], [1, 2]]", offsets),
+        (b"offsets = [[1, 2, 3, 4]]", offsets),
+        (b"offsets = [[-2147483649, 0, 1]]", offsets),
     ];
     have_their_faults(&rt, rt.alloc(), &rows);
 }
@@ -295,13 +187,8 @@ fn at_most_64_factors(rt: HostRuntime) -> Result<(), Fail> {
     Ok(())
 }
 
-// The text of a fault.
-fn printed(alloc: Global, fault: SettingsFault) -> Result<String, Fail> {
-    Ok(format!(in alloc; "{fault}")?)
-}
-
 #[test]
-fn printed_faults(rt: HostRuntime) -> Result<(), Fail> {
+fn printed_faults(rt: HostRuntime) {
     let rows = [
         (SettingsFault::NotToml, "NotToml"),
         (SettingsFault::UnknownKey, "UnknownKey"),
@@ -322,7 +209,6 @@ fn printed_faults(rt: HostRuntime) -> Result<(), Fail> {
         (SettingsFault::NoMemory, "NoMemory"),
     ];
     for (fault, text) in rows {
-        assert_eq!(rt; printed(rt.alloc(), fault)?.as_str(), text);
+        prints(&rt, rt.alloc(), fault, text);
     }
-    Ok(())
 }

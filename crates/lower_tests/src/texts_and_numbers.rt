@@ -1,17 +1,22 @@
 //! Tries how texts are cut into lines and fields, how numbers are read or refused, and how amounts and
 //! faults are printed.
 
+use blocks_file::BlocksFault;
+use closure_net::NetFault;
 use counted_devices::{InputFault, WriteFault};
 use fixed_worth::NumberFault::{NotANumber, TooLarge, TooLong};
 use fixed_worth::{
-    Field, Fields, Lines, Micros, MicrosTotal, Nanos, NumberFault, TextFault, WrittenNumber,
-    after_first_line, cut_at, first_line_feed, is_separator, laws, plain_signed, signed_whole,
-    trimmed_fraction, whole,
+    Field, Fields, Lines, Micros, MicrosTotal, Nanos, NumberFault, TextFault, WrittenNumber, laws,
+    plain_signed, signed_whole, whole,
 };
+use prec_file::{PrecFault, PrecWriteFault, RestsFault};
+use slope::SlopeFault;
+use slope_offsets::PatternFault;
 use std::alloc::Global;
 use std::fmt::{Debug, Display};
 use std::process::Abort;
 use std::test::Fail;
+use upit_file::UpitFault;
 
 // Fails the test where they differ. A call of it costs the proof less than the assertion in its place.
 fn equal<T: PartialEq + Debug + Copy>(rt: &impl Abort, got: T, wanted: T) {
@@ -24,7 +29,7 @@ fn equal_at<T: PartialEq + Debug + Copy>(rt: &impl Abort, text: &str, got: T, wa
 }
 
 // Something is printed as this text.
-fn prints<T: Display + Copy>(rt: &impl Abort, alloc: Global, shown: T, text: &str) {
+pub fn prints<T: Display + Copy>(rt: &impl Abort, alloc: Global, shown: T, text: &str) {
     let printed = shown.to_string(alloc).expect(rt, "room");
     equal(rt, printed.as_str(), text);
 }
@@ -161,12 +166,6 @@ fn printed_amounts(rt: HostRuntime) -> Result<(), Fail> {
 }
 
 #[test]
-fn trimmed_fractions(rt: HostRuntime) {
-    equal(&rt, trimmed_fraction(1_500, 4), (15, 2));
-    equal(&rt, trimmed_fraction(25, 6), (25, 6));
-}
-
-#[test]
 fn digits_of_numbers(rt: HostRuntime) {
     let mut digits = WrittenNumber::of(10);
     equal(&rt, digits.as_bytes(), b"10".as_slice());
@@ -188,49 +187,37 @@ fn printed_faults(rt: HostRuntime) {
     prints(&rt, rt.alloc(), TooLong, "TooLong");
     prints(&rt, rt.alloc(), TooLarge, "TooLarge");
     prints(&rt, rt.alloc(), TextFault::LineTooLong, "LineTooLong");
-}
-
-#[test]
-fn printed_device_faults(rt: HostRuntime) {
     prints(&rt, rt.alloc(), InputFault::Device, "Device");
     prints(&rt, rt.alloc(), InputFault::InputTooLong, "InputTooLong");
     prints(&rt, rt.alloc(), InputFault::NoMemory, "NoMemory");
     prints(&rt, rt.alloc(), WriteFault::Device, "Device");
 }
 
-// A text's first line feed, and what stands after its first byte.
-fn is_cut(rt: &impl Abort, text: &[u8], end: Option<usize>, after: &[u8]) {
-    equal(rt, first_line_feed(text), end);
-    equal(rt, after_first_line(text), after);
+#[test]
+fn printed_faults_of_files(rt: HostRuntime) {
+    let alloc: Global = rt.alloc();
+    prints(&rt, alloc, BlocksFault::Text(4), "Text(4)");
+    prints(&rt, alloc, BlocksFault::NoMemory, "NoMemory");
+    prints(&rt, alloc, PrecFault::Text(4), "Text(4)");
+    prints(&rt, alloc, PrecFault::NoMemory, "NoMemory");
+    let unknown = RestsFault::UnknownBlock(2);
+    prints(&rt, alloc, unknown, "UnknownBlock(2)");
+    prints(&rt, alloc, PrecWriteFault::TooWide(3), "TooWide(3)");
+    prints(&rt, alloc, PrecWriteFault::Device, "Device");
+    prints(&rt, alloc, UpitFault::WrongBlocks(4), "WrongBlocks(4)");
+    prints(&rt, alloc, UpitFault::NoMemory, "NoMemory");
 }
 
 #[test]
-fn where_a_text_is_cut(rt: HostRuntime) {
-    is_cut(&rt, b"", None, b"");
-    is_cut(&rt, b"a", None, b"");
-    is_cut(&rt, b"\nb", Some(0), b"b");
-    is_cut(&rt, b"a:b\r\n\nc", Some(4), b":b\r\n\nc");
-    equal(
-        &rt,
-        cut_at(b' ', b"RE 1 2"),
-        Some((b"RE".as_slice(), b"1 2".as_slice())),
-    );
-    equal(
-        &rt,
-        cut_at(b' ', b"RE "),
-        Some((b"RE".as_slice(), b"".as_slice())),
-    );
-    equal(&rt, cut_at(b' ', b"RE:1"), None);
-    for (byte, separates) in &[
-        (b' ', true),
-        (b'\t', true),
-        (b':', true),
-        (b'\r', true),
-        (b'\n', false),
-        (b',', false),
-    ] {
-        equal(&rt, is_separator(*byte), *separates);
-    }
+fn printed_faults_of_slopes_and_nets(rt: HostRuntime) {
+    let alloc: Global = rt.alloc();
+    prints(&rt, alloc, PatternFault::NotUpward(1), "NotUpward(1)");
+    prints(&rt, alloc, PatternFault::TooMany, "TooMany");
+    prints(&rt, alloc, PatternFault::NoMemory, "NoMemory");
+    prints(&rt, alloc, SlopeFault::SamePlace(0, 1), "SamePlace(0, 1)");
+    prints(&rt, alloc, SlopeFault::TooMany, "TooMany");
+    prints(&rt, alloc, SlopeFault::NoMemory, "NoMemory");
+    prints(&rt, alloc, NetFault::TooLarge, "TooLarge");
 }
 
 // The next line, and the number of lines by then.
@@ -253,14 +240,6 @@ fn lines_of_a_text(rt: HostRuntime) {
     next_is(&rt, &mut lines, Ok(Some(b"two\r")), 3);
     next_is(&rt, &mut lines, Ok(Some(b"end")), 4);
     next_is(&rt, &mut lines, Ok(None), 4);
-}
-
-#[test]
-fn the_longest_line(rt: HostRuntime) -> Result<(), Fail> {
-    let longest = vec![in rt.alloc(); b'a'; 65536]?;
-    let mut lines = Lines::new(&longest);
-    equal(&rt, lines.next_line(), Ok(Some(longest.as_slice())));
-    Ok(())
 }
 
 #[test]
@@ -301,32 +280,6 @@ fn numbers_of_a_line(rt: HostRuntime) {
         equal(&rt, fields.next_whole(), Some(*want));
     }
     equal(&rt, fields.next_whole(), None);
-}
-
-// The millionths of the next field.
-fn next_millionths(fields: &mut Fields) -> Option<Result<i64, NumberFault>> {
-    match fields.next_amount()? {
-        Ok(amount) => Some(Ok(amount.get())),
-        Err(fault) => Some(Err(fault)),
-    }
-}
-
-#[test]
-fn amounts_of_a_line(rt: HostRuntime) {
-    let mut fields = Fields::new(b"-15447.51 +.5 5.:1e-3 . 1000000000000.1 0.0000005 -7\r");
-    for want in &[
-        Ok(-15_447_510_000),
-        Ok(500_000),
-        Ok(5_000_000),
-        Ok(1_000),
-        Err(NotANumber),
-        Err(TooLarge),
-        Ok(1),
-        Ok(-7_000_000),
-    ] {
-        equal(&rt, next_millionths(&mut fields), Some(*want));
-    }
-    equal(&rt, next_millionths(&mut fields), None);
 }
 
 #[test]

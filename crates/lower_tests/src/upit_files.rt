@@ -2,13 +2,12 @@
 //! and values are written.
 
 use counted_devices::{Counted, CountedWrite, WriteFault};
-use fixed_worth::Micros;
 use std::alloc::Global;
 use std::fmt::Debug;
 use std::process::Abort;
 use std::test::Fail;
 use std::thread::Threads;
-use upit_file::{Upit, UpitFault, declared_blocks, laws, read_upit, read_values, write_upit};
+use upit_file::{Upit, UpitFault, declared_blocks, laws, read_upit, write_upit};
 
 // Fails the test where they differ. A call of it costs the proof less than the assertion in its place.
 fn equal<T: PartialEq + Debug + Copy>(rt: &impl Abort, got: T, wanted: T) {
@@ -55,36 +54,15 @@ fn a_whole_text(rt: HostRuntime) -> Result<(), Fail> {
     equal(&rt, declared_blocks(SAMPLE), Ok(2));
     let upit = sample(&rt, rt.alloc())?;
     assert!(rt; tells_the_sample(&upit));
+    // whatever a text's spelling, what it says is written in one way
+    let plain = b"NAME: a b\nTYPE: UPIT\nNBLOCKS: 2\nOBJECTIVE_FUNCTION:\n0 0\n1 -2.5\nEOF\n";
+    writes(&rt, rt.alloc(), &upit, plain);
     Ok(())
 }
 
 #[test]
-fn as_many_blocks_as_a_text_declares(rt: HostRuntime) -> Result<(), Fail> {
-    let upit = read_values(&rt, rt.alloc(), SAMPLE, None, Some(4))
-        .ok()
-        .ok_or("read")?;
-    assert!(rt; tells_the_sample(&upit));
-    Ok(())
-}
-
-// Two values in millionths, if there are two.
-fn two_values(values: &[Micros]) -> Option<(i64, i64)> {
-    if values.len() != 2 {
-        return None;
-    }
-    Some((values[0].get(), values[1].get()))
-}
-
-#[test]
-fn values_in_a_row(rt: HostRuntime) -> Result<(), Fail> {
-    let upit = sample(&rt, rt.alloc())?;
-    equal(&rt, two_values(upit.values()), Some((0, -2_500_000)));
-    Ok(())
-}
-
-#[test]
-fn headers(rt: HostRuntime) {
-    let rows: [(&[u8], Option<UpitFault>); 8] = [
+fn faults_of_texts(rt: HostRuntime) {
+    let rows: [(&[u8], Option<UpitFault>); 10] = [
         (SAMPLE, Some(UpitFault::WrongBlocks(4))),
         (b"OBJECTIVE_FUNCTION", Some(UpitFault::WrongBlocks(1))),
         (b"", Some(UpitFault::NoObjective(0))),
@@ -98,6 +76,14 @@ fn headers(rt: HostRuntime) {
         (
             b"nblocks: 3\nOBJECTIVE_FUNCTION\n",
             Some(UpitFault::WrongBlocks(2)),
+        ),
+        (
+            b"NBLOCKS 3\nOBJECTIVE_FUNCTION\nx 1",
+            Some(UpitFault::Number(3)),
+        ),
+        (
+            b"NBLOCKS 3\nOBJECTIVE_FUNCTION\n0 -1000000000000\n% x\nEOF\n0 1",
+            None,
         ),
     ];
     have_their_faults(&rt, rt.alloc(), &rows);
@@ -124,39 +110,6 @@ fn names(rt: HostRuntime) {
     for (text, name) in &rows {
         assert!(rt; has_name(&rt, rt.alloc(), text, name));
     }
-}
-
-#[test]
-fn other_types(rt: HostRuntime) {
-    let rows: [(&[u8], Option<UpitFault>); 2] = [
-        (b"TYPE: PCPSP", Some(UpitFault::NotUpit(1))),
-        (b"\nTYPE:", Some(UpitFault::NotUpit(2))),
-    ];
-    have_their_faults(&rt, rt.alloc(), &rows);
-}
-
-// A text with a name of so many bytes.
-fn named_by(alloc: Global, len: usize) -> Result<Vec<u8>, Fail> {
-    let mut text = Vec::from_slice(alloc, b"NAME:")?;
-    for _ in 0..len {
-        text.push(b'x')?;
-    }
-    text.extend_from_slice(b"\nNBLOCKS 0\nOBJECTIVE_FUNCTION")?;
-    Ok(text)
-}
-
-// The blocks that a text declares whose name has so many bytes.
-fn blocks_named_by(alloc: Global, len: usize) -> Result<Result<u32, UpitFault>, Fail> {
-    let text = named_by(alloc, len)?;
-    Ok(declared_blocks(text.as_slice()))
-}
-
-#[test]
-fn long_names(rt: HostRuntime) -> Result<(), Fail> {
-    equal(&rt, blocks_named_by(rt.alloc(), 60_000)?, Ok(0));
-    let longer = blocks_named_by(rt.alloc(), 60_001)?;
-    equal(&rt, longer, Err(UpitFault::Text(1)));
-    Ok(())
 }
 
 // Whether this is a name that a text can have.
@@ -197,68 +150,6 @@ fn block_counts(rt: HostRuntime) {
     }
 }
 
-#[test]
-fn records(rt: HostRuntime) {
-    let rows: [(&[u8], Option<UpitFault>); 8] = [
-        (
-            b"NBLOCKS 3\nOBJECTIVE_FUNCTION\n3 1",
-            Some(UpitFault::UnknownBlock(3)),
-        ),
-        (
-            b"NBLOCKS 3\nOBJECTIVE_FUNCTION\n2 1\n\n2 1",
-            Some(UpitFault::Repeated(5)),
-        ),
-        (
-            b"NBLOCKS 3\nOBJECTIVE_FUNCTION\n1 1 1",
-            Some(UpitFault::Text(3)),
-        ),
-        (
-            b"NBLOCKS 3\nOBJECTIVE_FUNCTION\n1",
-            Some(UpitFault::Text(3)),
-        ),
-        (
-            b"NBLOCKS 3\nOBJECTIVE_FUNCTION\n1 x",
-            Some(UpitFault::Number(3)),
-        ),
-        (
-            b"NBLOCKS 3\nOBJECTIVE_FUNCTION\nx 1",
-            Some(UpitFault::Number(3)),
-        ),
-        (
-            b"NBLOCKS 3\nOBJECTIVE_FUNCTION\n1 1000000000001",
-            Some(UpitFault::Number(3)),
-        ),
-        (
-            b"NBLOCKS 3\nOBJECTIVE_FUNCTION\n0 -1000000000000\n% x\nEOF\n0 1",
-            None,
-        ),
-    ];
-    have_their_faults(&rt, rt.alloc(), &rows);
-}
-
-#[test]
-fn long_lines(rt: HostRuntime) -> Result<(), Fail> {
-    let line = [b'%'; 65_537];
-    equal(&rt, fault(&rt, rt.alloc(), &line), Some(UpitFault::Text(1)));
-    equal(&rt, declared_blocks(&line), Err(UpitFault::Text(1)));
-    let (short, _) = line.as_slice().split_at(65_536);
-    let wanted = Some(UpitFault::NoObjective(1));
-    equal(&rt, fault(&rt, rt.alloc(), short), wanted);
-    Ok(())
-}
-
-fn prints(rt: &impl Abort, alloc: Global, fault: UpitFault, text: &str) -> Result<(), Fail> {
-    let printed = fault.to_string(alloc)?;
-    equal(rt, printed.as_str(), text);
-    Ok(())
-}
-
-#[test]
-fn printed_faults(rt: HostRuntime) -> Result<(), Fail> {
-    prints(&rt, rt.alloc(), UpitFault::WrongBlocks(4), "WrongBlocks(4)")?;
-    prints(&rt, rt.alloc(), UpitFault::NoMemory, "NoMemory")
-}
-
 const WRITTEN: &[u8] =
     b"NAME: a b\nTYPE: UPIT\nNBLOCKS: 3\nOBJECTIVE_FUNCTION:\n0 0\n1 -2.5\n2 1000000000000\nEOF\n";
 
@@ -274,32 +165,6 @@ fn written_sample(rt: &(impl Threads + Sync), alloc: Global) -> Result<Upit, Fai
     Ok(read_upit(rt, alloc, WRITTEN, 3, None).ok().ok_or("read")?)
 }
 
-#[test]
-fn a_written_text(rt: HostRuntime) -> Result<(), Fail> {
-    let upit = written_sample(&rt, rt.alloc())?;
-    laws::written_is_read(&upit);
-    writes(&rt, rt.alloc(), &upit, WRITTEN);
-    Ok(())
-}
-
-// Whatever a text's spelling, what it says is written in one way.
-#[test]
-fn a_read_text_is_written_plainly(rt: HostRuntime) -> Result<(), Fail> {
-    let upit = sample(&rt, rt.alloc())?;
-    let plain = b"NAME: a b\nTYPE: UPIT\nNBLOCKS: 2\nOBJECTIVE_FUNCTION:\n0 0\n1 -2.5\nEOF\n";
-    writes(&rt, rt.alloc(), &upit, plain);
-    Ok(())
-}
-
-#[test]
-fn an_empty_text(rt: HostRuntime) -> Result<(), Fail> {
-    let alloc: Global = rt.alloc();
-    let upit = Upit::new(Vec::new(alloc), Vec::new(alloc)).ok_or("name")?;
-    let empty = b"NAME: \nTYPE: UPIT\nNBLOCKS: 0\nOBJECTIVE_FUNCTION:\nEOF\n";
-    writes(&rt, alloc, &upit, empty);
-    Ok(())
-}
-
 // The answer of a device that has room for twenty bytes, how often it failed, and whether it has a prefix.
 fn into_twenty(upit: &Upit) -> (Result<(), WriteFault>, u64, bool) {
     let mut room = [0u8; 20];
@@ -310,9 +175,20 @@ fn into_twenty(upit: &Upit) -> (Result<(), WriteFault>, u64, bool) {
 }
 
 #[test]
-fn a_full_device(rt: HostRuntime) -> Result<(), Fail> {
+fn a_text_is_written_and_a_full_device_has_a_prefix(rt: HostRuntime) -> Result<(), Fail> {
     let upit = written_sample(&rt, rt.alloc())?;
-    let wanted = (Err(WriteFault::Device), 1, true);
-    equal(&rt, into_twenty(&upit), wanted);
+    laws::written_is_read(&upit);
+    writes(&rt, rt.alloc(), &upit, WRITTEN);
+    let full = (Err(WriteFault::Device), 1, true);
+    equal(&rt, into_twenty(&upit), full);
+    Ok(())
+}
+
+#[test]
+fn an_empty_text(rt: HostRuntime) -> Result<(), Fail> {
+    let alloc: Global = rt.alloc();
+    let upit = Upit::new(Vec::new(alloc), Vec::new(alloc)).ok_or("name")?;
+    let empty = b"NAME: \nTYPE: UPIT\nNBLOCKS: 0\nOBJECTIVE_FUNCTION:\nEOF\n";
+    writes(&rt, alloc, &upit, empty);
     Ok(())
 }
