@@ -6,7 +6,9 @@ ghost use Rattle.certificate_file.specs.Certificate.{Covers};
 
 use crate::pits_and_flows::{rests_of, same};
 use check_pit::reading::header;
-use check_pit::{CertFault, Certificate, Header, Price, check, read_certificate, write_certificate};
+use check_pit::{
+    CertFault, Certificate, Header, Price, check, read_certificate, write_certificate,
+};
 use closure_net::Net;
 use counted_devices::Counted;
 use fixed_worth::MOST_BLOCKS;

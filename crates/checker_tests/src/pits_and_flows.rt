@@ -35,11 +35,7 @@ fn net_with(rests: Rests, worths: Vec<WorthSize>) -> Result<Net<WorthSize>, Fail
     Ok(net)
 }
 
-fn net_of(
-    alloc: Global,
-    pairs: &[(u32, u32)],
-    worths: &[WorthSize],
-) -> Result<Net<WorthSize>, Fail>
+fn net_of(alloc: Global, pairs: &[(u32, u32)], worths: &[WorthSize]) -> Result<Net<WorthSize>, Fail>
     requires { length worths.now ≤ MOST_BLOCKS }
 {
     let rests = rests_of(alloc, worths.len() as u32, pairs)?;
