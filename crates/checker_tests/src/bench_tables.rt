@@ -1,24 +1,14 @@
 //! Tries the bench table of three blocks in two shells, inputs of different lengths, sums that
 //! don't fit, and a device that is full.
 
-use crate::prices_and_series::{COST, HIGH, LOW, REVENUE, added, opened, prices};
+use crate::pits_and_flows::same;
+use crate::prices_and_series::{listed, with_two_pits};
 use bench_report::{BenchRow, ReportFault, ReportWriteFault, rows, write_report};
 use blocks_file::read_blocks;
 use counted_devices::Counted;
 use shells::Series;
 use std::alloc::Global;
 use std::process::Abort;
-use std::thread::Threads;
-
-// The last block in the shell 500, the others in the shell 1000.
-fn series(rt: &(impl Threads + Sync + Abort), alloc: Global) -> Series {
-    let mut series = opened(rt, alloc, prices(rt, alloc, &REVENUE, &COST));
-    for proved in [LOW, HIGH] {
-        let fault = added(rt, alloc, &mut series, proved, proved.at);
-        assert!(rt; fault.is_none());
-    }
-    series
-}
 
 // The rows of the table, or why there are none. The blocks' tonnes are the third of their columns.
 fn rows_of(
@@ -65,12 +55,12 @@ fn writes(
     text: &[u8],
 ) {
     let written = table(rt, alloc, series, blocks, worths).expect(rt, "table");
-    assert_eq!(rt; written.as_slice(), text);
+    same(rt, written.as_slice(), text);
 }
 
 #[test]
 fn the_table_of_three_blocks(rt: HostRuntime) {
-    let series = series(&rt, rt.alloc());
+    let series = with_two_pits(&rt, rt.alloc(), listed(&rt, rt.alloc()));
     let blocks = b"0 0 0 0 10 4 100\n1 0 0 1 0 5 80.5\n2 1 0 1 4 1 60\n";
     let tables: [(&[i128], &[u8]); 2] = [
         (
@@ -103,7 +93,7 @@ fn faults(
 // The first two blocks lie on one bench, in one shell.
 #[test]
 fn sums_and_lengths(rt: HostRuntime) {
-    let series = series(&rt, rt.alloc());
+    let series = with_two_pits(&rt, rt.alloc(), listed(&rt, rt.alloc()));
     let blocks = b"0 0 0 7 10 4 100\n1 1 0 7 0 5 80.5\n2 2 0 7 4 1 60\n";
     let most = i128::MAX;
     let cases: [(&[i128], Option<ReportFault>); 4] = [

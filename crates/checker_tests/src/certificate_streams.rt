@@ -5,10 +5,8 @@ ghost use Rattle.std.specs.Prelude.{◌≡◌, length, IfOk};
 ghost use Rattle.check_pit.specs.CertStreams.{IsReadFor};
 ghost use Rattle.ordered_group.specs.declared.groups.Group.TheVariants as group;
 
-use crate::pits_and_flows::{same, three_blocks};
-use check_pit::{
-    Accepted, CertFault, CertStream, Header, PitFault, Price, Room, StreamFault, check_stream,
-};
+use crate::pits_and_flows::three_blocks;
+use check_pit::{Accepted, CertFault, CertStream, PitFault, Room, StreamFault, check_stream};
 use closure_net::Net;
 use counted_devices::{Counted, Failing, Failure};
 use ordered_group::{Group, WorthSize};
@@ -49,10 +47,11 @@ fn pass_header(stream: &mut CertStream<Device<'_>>, net: &Net<WorthSize>) -> Res
     Ok(())
 }
 
-// A text of which each read gives at most 16 bytes and one read fails, after its header.
+// A text of which each read gives at most so many bytes and one read fails, after its header.
 fn stream_of<'a>(
     alloc: Global,
     text: &'a [u8],
+    most: usize,
     fails_at: u64,
     net: &Net<WorthSize>,
 ) -> Result<CertStream<Device<'a>>, Fail>
@@ -60,7 +59,7 @@ fn stream_of<'a>(
     ensures read { IfOk result
         (λ s. IsReadFor (length net.now.worths) group.Pair s.header s.fault) }
 {
-    let device = Failing::new(text, 16, fails_at, Failure::Broken);
+    let device = Failing::new(text, most, fails_at, Failure::Broken);
     let mut stream = CertStream::new(alloc, Counted::new(device))?;
     pass_header(&mut stream, net)?;
     Ok(stream)
@@ -75,6 +74,19 @@ fn worth_of(
     }
 }
 
+// What a check of a text answers in this room.
+fn answer_to(
+    alloc: Global,
+    room: &mut Room<WorthSize>,
+    net: &Net<WorthSize>,
+    text: &[u8],
+) -> Result<Result<WorthSize, StreamFault>, Fail>
+    requires { length room.old.balances ≡ length net.now.worths }
+{
+    let mut stream = stream_of(alloc, text, 16, 0, net)?;
+    Ok(worth_of(check_stream(&mut stream, net, room)))
+}
+
 // What a check of lines after the header answers in this room.
 fn answer_in(
     alloc: Global,
@@ -86,8 +98,7 @@ fn answer_in(
         return Err(Fail::from("room"));
     }
     let text = with_header(alloc, body)?;
-    let mut stream = stream_of(alloc, &text, 0, net)?;
-    Ok(worth_of(check_stream(&mut stream, net, room)))
+    answer_to(alloc, room, net, &text)
 }
 
 // Two checks of the stream, one after the other.
@@ -130,7 +141,7 @@ fn answers_over(
     fails_at: u64,
     net: &Net<WorthSize>,
 ) -> Result<[Result<WorthSize, StreamFault>; 2], Fail> {
-    let mut stream = stream_of(alloc, text, fails_at, net)?;
+    let mut stream = stream_of(alloc, text, 16, fails_at, net)?;
     answers_in_rooms(alloc, &mut stream, net)
 }
 
@@ -183,56 +194,64 @@ fn a_failed_read_accepts_nothing(rt: HostRuntime) -> Result<(), Fail> {
     Ok(())
 }
 
+// What a check has given to a block isn't there in the next one: by END alone each block is balanced.
 #[test]
-fn faults_of_lines_come_first(rt: HostRuntime) -> Result<(), Fail> {
-    let rows: [Row; 5] = [
+fn faults_come_in_their_order_in_one_room(rt: HostRuntime) -> Result<(), Fail> {
+    let rows: [Row; 8] = [
         (
             b"PIT 0\nPIT 1\nPIT 2\nSOURCE 0 6 -1\n",
             faulty(CertFault::Truncated),
         ),
         (b"PIT 0\nSOURCE 9 -1 1\nEND\n", faulty(CertFault::Number(6))),
-        (b"PIT 0\nEND\nEND\n", refused(PitFault::NotClosed(0, 2))),
-        (b"PIT 2\nEND\nEND\n", faulty(CertFault::Text(7))),
         (b"REST 0 1 -1 0\n", faulty(CertFault::UnknownPair(5))),
-    ];
-    have_their_answers(&rt, rt.alloc(), rows.as_slice())
-}
-
-#[test]
-fn faults_of_a_pit_come_in_their_order(rt: HostRuntime) -> Result<(), Fail> {
-    let rows: [Row; 6] = [
         (
             b"PIT 0\nPIT 1\nSOURCE 0 -6 -1\n",
             refused(PitFault::NotClosed(0, 2)),
         ),
         (
-            b"PIT 0\nPIT 1\nPIT 2\nREST 0 2 -6 1\n",
-            refused(PitFault::Negative),
-        ),
-        (b"SOURCE 2 1 0\nEND\n", refused(PitFault::OverCapacity(2))),
-        (
             b"SOURCE 0 5 170141183460469231731687303715884105727\n",
             refused(PitFault::TooLarge),
         ),
-        (b"SOURCE 0 6 -1\nEND\n", refused(PitFault::Unbalanced(0))),
+        (
+            b"PIT 0\nPIT 2\nSOURCE 0 6 -1\nEND\n",
+            refused(PitFault::Unbalanced(0)),
+        ),
         (b"END\n", refused(PitFault::NotTight)),
+        (WHOLE, Ok(WorthSize { nanos: 1, size: -3 })),
     ];
     have_their_answers(&rt, rt.alloc(), rows.as_slice())
 }
 
-// How many reads of at most so many bytes the header takes, and a check after it.
+// How many reads of at most so many bytes the header takes.
+fn reads_of_header(
+    alloc: Global,
+    text: &[u8],
+    most: usize,
+    net: &Net<WorthSize>,
+) -> Result<u64, Fail> {
+    let stream = stream_of(alloc, text, most, 0, net)?;
+    Ok(stream.into_device().into_inner().calls())
+}
+
+// How many of them the header takes together with a check after it.
+fn reads_of_check(
+    alloc: Global,
+    text: &[u8],
+    most: usize,
+    net: &Net<WorthSize>,
+) -> Result<u64, Fail> {
+    let mut stream = stream_of(alloc, text, most, 0, net)?;
+    let mut room = Room::new(alloc, net)?;
+    let _ = worth_of(check_stream(&mut stream, net, &mut room));
+    Ok(stream.into_device().into_inner().calls())
+}
+
 fn reads_of(alloc: Global, text: &[u8], most: usize) -> Result<[u64; 2], Fail> {
     let net = three_blocks(alloc)?;
-    let device = Failing::new(text, most, 0, Failure::Broken);
-    let mut stream = CertStream::new(alloc, Counted::new(device))?;
-    pass_header(&mut stream, &net)?;
-    let of_header = stream.into_device().into_inner().calls();
-    let device = Failing::new(text, most, 0, Failure::Broken);
-    let mut stream = CertStream::new(alloc, Counted::new(device))?;
-    pass_header(&mut stream, &net)?;
-    let mut room = Room::new(alloc, &net)?;
-    let _ = worth_of(check_stream(&mut stream, &net, &mut room));
-    Ok([of_header, stream.into_device().into_inner().calls()])
+    Ok([
+        reads_of_header(alloc, text, most, &net)?,
+        reads_of_check(alloc, text, most, &net)?,
+    ])
 }
 
 // The header has 46 bytes. The end is found by one read more than there are bytes, where each gives one; and no read is
@@ -245,80 +264,5 @@ fn a_stream_is_read_only_where_no_line_is_held(rt: HostRuntime) -> Result<(), Fa
     assert!(rt; reads_of(alloc, &text, 1)? == [46, text.len() as u64 + 1]);
     text.extend_from_slice(b"PIT 0\n")?;
     assert!(rt; reads_of(alloc, &text, 1_000)? == [1, 1]);
-    Ok(())
-}
-
-#[test]
-fn one_room_serves_one_check_after_another(rt: HostRuntime) -> Result<(), Fail> {
-    let rows: [Row; 2] = [
-        (
-            b"PIT 0\nPIT 2\nSOURCE 0 6 -1\nEND\n",
-            refused(PitFault::Unbalanced(0)),
-        ),
-        (WHOLE, Ok(WorthSize { nanos: 1, size: -3 })),
-    ];
-    have_their_answers(&rt, rt.alloc(), rows.as_slice())
-}
-
-// What the first check has given to a block isn't there in the second one, in which each block is balanced.
-#[test]
-fn a_room_serves_one_check_after_another(rt: HostRuntime) -> Result<(), Fail> {
-    let rows: [Row; 2] = [
-        (b"SOURCE 0 6 -1\nEND\n", refused(PitFault::Unbalanced(0))),
-        (b"END\n", refused(PitFault::NotTight)),
-    ];
-    have_their_answers(&rt, rt.alloc(), rows.as_slice())
-}
-
-#[test]
-fn amounts_have_limits(rt: HostRuntime) -> Result<(), Fail> {
-    let rows: [Row; 2] = [
-        (b"SOURCE 0 -1 0\n", refused(PitFault::Negative)),
-        (b"SOURCE 1 6 0\n", refused(PitFault::OverCapacity(1))),
-    ];
-    have_their_answers(&rt, rt.alloc(), rows.as_slice())
-}
-
-// The header of a text of which each read gives at most five bytes and one read fails.
-fn header_of(
-    alloc: Global,
-    text: &[u8],
-    fails_at: u64,
-) -> Result<Result<Header, StreamFault>, Fail> {
-    let device = Failing::new(text, 5, fails_at, Failure::Broken);
-    let mut stream = CertStream::new(alloc, Counted::new(device))?;
-    Ok(stream.header())
-}
-
-#[test]
-fn lines_come_from_several_reads(rt: HostRuntime) -> Result<(), Fail> {
-    let header = Header {
-        blocks: 3,
-        price: Price::Objective,
-        group: Group::Pair,
-    };
-    same(&rt, header_of(rt.alloc(), HEADER, 0)?, Ok(header));
-    Ok(())
-}
-
-#[test]
-fn a_text_that_ends_within_a_line_is_cut_off(rt: HostRuntime) -> Result<(), Fail> {
-    let cut = StreamFault::Cert(CertFault::Truncated);
-    same(
-        &rt,
-        header_of(rt.alloc(), b"PITCERT 1\nBLOCKS 3", 0)?,
-        Err(cut),
-    );
-    Ok(())
-}
-
-// The fifth read would be the one that finds the end.
-#[test]
-fn a_failed_read_is_not_the_end_of_the_text(rt: HostRuntime) -> Result<(), Fail> {
-    same(
-        &rt,
-        header_of(rt.alloc(), b"PITCERT 1\nBLOCKS 3", 5)?,
-        Err(StreamFault::Device),
-    );
     Ok(())
 }

@@ -13,5 +13,3 @@ mod certificates;
 mod pits_and_flows;
 #[cfg(test)]
 mod prices_and_series;
-#[cfg(test)]
-mod scaled_certificates;

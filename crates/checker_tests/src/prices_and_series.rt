@@ -3,7 +3,7 @@
 
 use crate::pits_and_flows::same;
 use blocks_file::read_blocks;
-use check_pit::{Accepted, Price, check};
+use check_pit::{Accepted, check};
 use closure_net::{Carried, Flow, Net, Pit};
 use fixed_worth::Micros;
 use held_pairs::{HeldPairs, held_by_region};
@@ -34,7 +34,7 @@ fn table(
     Prices::new(column(rt, alloc, revenue), column(rt, alloc, cost))
 }
 
-pub fn prices(rt: &impl Abort, alloc: Global, revenue: &[i64], cost: &[i64]) -> Prices {
+fn prices(rt: &impl Abort, alloc: Global, revenue: &[i64], cost: &[i64]) -> Prices {
     table(rt, alloc, revenue, cost).expect(rt, "prices")
 }
 
@@ -71,7 +71,7 @@ fn rests(rt: &impl Abort, alloc: Global) -> Rests {
 }
 
 // The same pairs, held by a list.
-fn listed(rt: &(impl Threads + Sync + Abort), alloc: Global) -> HeldPairs {
+pub fn listed(rt: &(impl Threads + Sync + Abort), alloc: Global) -> HeldPairs {
     let text = Vec::from_slice(alloc, b"0 1 1\n").expect(rt, "memory");
     let list = read_predecessors(rt, alloc, text, 3, None)
         .ok()
@@ -92,7 +92,7 @@ fn placed(rt: &impl Abort, alloc: Global) -> HeldPairs {
         .expect(rt, "slopes")
 }
 
-pub fn opened(rt: &(impl Threads + Sync + Abort), alloc: Global, prices: Prices) -> Series {
+fn opened(rt: &(impl Threads + Sync + Abort), alloc: Global, prices: Prices) -> Series {
     Series::open(alloc, listed(rt, alloc), prices).expect(rt, "series")
 }
 
@@ -147,8 +147,8 @@ fn refusal(
 
 // A pit with the flow that proves it at a factor.
 #[derive(Clone, Copy)]
-pub struct Proved<'a> {
-    pub at: u32,
+struct Proved<'a> {
+    at: u32,
     pit: &'a [u32],
     carried: WorthSize,
 }
@@ -160,7 +160,7 @@ pub const REVENUE: [i64; 3] = [10_000_000, 0, 4_000_000];
 pub const COST: [i64; 3] = [4_000_000, 5_000_000, 1_000_000];
 
 /// Of these blocks the last one is dug at half the price.
-pub const LOW: Proved<'static> = Proved {
+const LOW: Proved<'static> = Proved {
     at: 500,
     pit: &[2],
     carried: WorthSize {
@@ -170,7 +170,7 @@ pub const LOW: Proved<'static> = Proved {
 };
 
 /// And all of them are at the whole price.
-pub const HIGH: Proved<'static> = Proved {
+const HIGH: Proved<'static> = Proved {
     at: 1_000,
     pit: &[0, 1, 2],
     carried: WorthSize {
@@ -197,7 +197,7 @@ fn added_of(
 }
 
 // Checks a pit at its factor, and adds it at another.
-pub fn added(
+fn added(
     rt: &(impl Threads + Sync + Abort),
     alloc: Global,
     series: &mut Series,
@@ -218,8 +218,12 @@ fn has_shells(series: &Series, shells: &[Option<u32>]) -> bool {
     true
 }
 
-// Whether a series of these pairs takes the pits of two factors, and no others.
-fn takes_two_pits(rt: &(impl Threads + Sync + Abort), alloc: Global, rests: HeldPairs) {
+// A series of these pairs: it takes the pits of two factors, and no others.
+pub fn with_two_pits(
+    rt: &(impl Threads + Sync + Abort),
+    alloc: Global,
+    rests: HeldPairs,
+) -> Series {
     let prices = prices(rt, alloc, &REVENUE, &COST);
     let mut series = Series::open(alloc, rests, prices).expect(rt, "series");
     let pushes = [
@@ -232,6 +236,11 @@ fn takes_two_pits(rt: &(impl Threads + Sync + Abort), alloc: Global, rests: Held
         let refusal = added(rt, alloc, &mut series, proved, factor);
         same(rt, refusal, fault);
     }
+    series
+}
+
+// Fails the test where a series doesn't have their factors and shells.
+fn has_two_pits(rt: &impl Abort, series: Series) {
     same(rt, series.factors(), [500, 1_000].as_slice());
     let shells = [Some(1_000), Some(1_000), Some(500)];
     same(rt, has_shells(&series, &shells), true);
@@ -240,8 +249,8 @@ fn takes_two_pits(rt: &(impl Threads + Sync + Abort), alloc: Global, rests: Held
 #[test]
 fn each_block_has_the_lowest_factor_that_digs_it(rt: HostRuntime) {
     let alloc = rt.alloc();
-    takes_two_pits(&rt, alloc, listed(&rt, alloc));
-    takes_two_pits(&rt, alloc, placed(&rt, alloc));
+    has_two_pits(&rt, with_two_pits(&rt, alloc, listed(&rt, alloc)));
+    has_two_pits(&rt, with_two_pits(&rt, alloc, placed(&rt, alloc)));
 }
 
 // Where nothing is earned, the net is the same at each factor.
@@ -298,14 +307,6 @@ fn all_worth(rt: &impl Abort, prices: &Prices, thousandths: u32, worth: i128) {
     }
 }
 
-// Fails the test where a block doesn't go this way.
-fn all_go(rt: &impl Abort, prices: &Prices, thousandths: u32, way: Option<u32>) {
-    let factor = factor_of(rt, thousandths);
-    for b in 0..prices.len() {
-        assert!(rt; prices.way_of(b, factor) == way);
-    }
-}
-
 #[test]
 fn a_block_goes_to_the_mill_or_to_waste(rt: HostRuntime) {
     let alloc = rt.alloc();
@@ -315,27 +316,6 @@ fn a_block_goes_to_the_mill_or_to_waste(rt: HostRuntime) {
     all_worth(&rt, &prices, 1_000, 5_000_000_000);
     let short = mill_table(&rt, alloc, &[1], &[1], &[]);
     same(&rt, short.err(), Some(PricesFault::WrongLength));
-    let negative = mill_table(&rt, alloc, &[-1], &[0], &[0]);
-    same(&rt, negative.err(), Some(PricesFault::NegativeRevenue(0)));
-}
-
-// Leached a block earns 6 and costs 1, milled it earns 10 and costs 4, and mining costs 2. At 0.75 both ways are worth
-// as much.
-#[test]
-fn a_block_goes_the_way_that_is_worth_most(rt: HostRuntime) {
-    let alloc = rt.alloc();
-    let ways: [(&[i64], &[i64]); 2] = [(&[6_000_000], &[1_000_000]), (&[10_000_000], &[4_000_000])];
-    let prices = ways_table(&rt, alloc, &ways, &[2_000_000]).expect(&rt, "prices");
-    let cases: [(u32, i128, Option<u32>); 4] = [
-        (100, -2_000_000_000, None),
-        (600, 600_000_000, Some(0)),
-        (750, 1_500_000_000, Some(0)),
-        (1_000, 4_000_000_000, Some(1)),
-    ];
-    for (thousandths, worth, way) in cases {
-        all_worth(&rt, &prices, thousandths, worth);
-        all_go(&rt, &prices, thousandths, way);
-    }
 }
 
 #[test]
@@ -381,27 +361,6 @@ fn a_pit_over_a_table_of_another_kind_is_added(rt: HostRuntime) {
     let refusal = added_of(&rt, alloc, &mut series, &net, nothing, 700);
     same(&rt, refusal, None);
     same(&rt, series.factors(), [700].as_slice());
-}
-
-// Fails the test where certificates of the table don't name this price alone.
-fn names_only(rt: &impl Abort, prices: &Prices, price: Price, others: &[Price]) {
-    let factor = factor_of(rt, 200);
-    assert!(rt; prices.price_at(factor) == price);
-    assert!(rt; prices.factor_of(price) == Some(factor));
-    for other in others {
-        assert!(rt; prices.factor_of(*other).is_none());
-    }
-}
-
-#[test]
-fn a_table_says_what_its_certificates_name(rt: HostRuntime) {
-    let alloc = rt.alloc();
-    let plain = prices(&rt, alloc, &[1], &[1]);
-    let mill = waste(&rt, alloc);
-    let by_factor = Price::Factor(200);
-    let by_mill = Price::Mill(200);
-    names_only(&rt, &plain, by_factor, &[Price::Objective, by_mill]);
-    names_only(&rt, &mill, by_mill, &[Price::Objective, by_factor]);
 }
 
 #[test]
