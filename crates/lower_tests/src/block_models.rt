@@ -49,6 +49,17 @@ fn values(blocks: &BlockModel, block: u32) -> [Option<i64>; 3] {
 }
 
 #[test]
+fn places_of_three_blocks(rt: HostRuntime) -> Result<(), Fail> {
+    let blocks = read_blocks(rt.alloc(), THREE, &[0, 1, 2])?;
+    equal(&rt, (blocks.len(), blocks.columns()), (3, 3));
+    for (block, x, y, z) in &[(0, 0, 0, 0), (1, 0, 0, 1), (2, 1, 0, 1)] {
+        let (x, y, z) = (*x, *y, *z);
+        equal(&rt, place(&blocks, *block), Some(Place { x, y, z }));
+    }
+    Ok(())
+}
+
+#[test]
 fn no_columns(rt: HostRuntime) -> Result<(), Fail> {
     let none = read_blocks(rt.alloc(), THREE, &[])?;
     equal(&rt, (none.len(), none.columns()), (3, 0));

@@ -8,6 +8,8 @@ mod block_models;
 #[cfg(test)]
 mod devices;
 #[cfg(test)]
+mod grids_of_places;
+#[cfg(test)]
 mod groups;
 #[cfg(test)]
 mod nets_flows_and_pits;

@@ -1,4 +1,4 @@
-//! Tries what is read from settings with every key and of several ways, and with what faults other texts are refused.
+//! Tries what is read from settings with every key, of a mill and of several ways, and with what faults other texts are refused.
 
 use crate::texts_and_numbers::prints;
 use settings_file::{Key, SettingsFault, WayColumns, read_settings};
@@ -35,6 +35,41 @@ fn every_key(rt: HostRuntime) -> Result<(), Fail> {
 }
 
 #[test]
+fn keys_of_a_mill(rt: HostRuntime) -> Result<(), Fail> {
+    let text = b"revenue = 0\nprocessing = 1\nmining = 65535";
+    let settings = read_settings(rt.alloc(), text).ok().ok_or("read")?;
+    assert_eq!(rt; settings.processing(), Some(1));
+    assert_eq!(rt; settings.mining(), Some(65_535));
+    assert!(rt; settings.names_mill() && settings.cost().is_none());
+    assert!(rt; settings.says(Key::Mining) && !settings.says(Key::Tonnes));
+    Ok(())
+}
+
+#[test]
+fn costs_beside_a_mill(rt: HostRuntime) {
+    let bad = Some(SettingsFault::BadValue(Key::Cost));
+    let rows: [(&[u8], Option<SettingsFault>); 7] = [
+        (b"cost = 1\nmining = 1", bad),
+        (b"revenue = 0\nprocessing = 1\ncost = 2", bad),
+        (b"mining = -1\ncost = 1", bad),
+        (
+            b"revenue = -1\ncost = 1\nmining = 1",
+            Some(SettingsFault::BadValue(Key::Revenue)),
+        ),
+        (
+            b"processing = -1\nmining = 65536",
+            Some(SettingsFault::BadValue(Key::Processing)),
+        ),
+        (
+            b"mining = 65536\noffsets = 1",
+            Some(SettingsFault::BadValue(Key::Offsets)),
+        ),
+        (b"mining = 1", None),
+    ];
+    have_their_faults(&rt, rt.alloc(), &rows);
+}
+
+#[test]
 fn ways_to_treat_blocks(rt: HostRuntime) -> Result<(), Fail> {
     let text =
         b"mining = 4\n[[ways]]\nprocessing = 6\nrevenue = 5\n[[ways]]\nrevenue = 65535\nprocessing = 6";
@@ -55,8 +90,9 @@ fn ways_to_treat_blocks(rt: HostRuntime) -> Result<(), Fail> {
 }
 
 #[test]
-fn no_settings(rt: HostRuntime) {
-    let rows: [(&[u8], Option<SettingsFault>); 11] = [
+fn no_documents(rt: HostRuntime) {
+    let rows: [(&[u8], Option<SettingsFault>); 7] = [
+        (b"= 3", Some(SettingsFault::NotToml)),
         (b"revenue = 1\nrevenue = 1", Some(SettingsFault::NotToml)),
         (
             b"revenue = 9223372036854775808",
@@ -66,6 +102,14 @@ fn no_settings(rt: HostRuntime) {
         (b"# \xff", Some(SettingsFault::NotToml)),
         (b"\"revenue\" = 3", None),
         (b"\xef\xbb\xbfrevenue = 3", None),
+    ];
+    have_their_faults(&rt, rt.alloc(), &rows);
+}
+
+#[test]
+fn unknown_keys(rt: HostRuntime) {
+    let rows: [(&[u8], Option<SettingsFault>); 6] = [
+        (b"colour = 1", Some(SettingsFault::UnknownKey)),
         (b"process = 1", Some(SettingsFault::UnknownKey)),
         (b"minings = 1", Some(SettingsFault::UnknownKey)),
         (b"Revenue = 1", Some(SettingsFault::UnknownKey)),
@@ -78,21 +122,16 @@ fn no_settings(rt: HostRuntime) {
 #[test]
 fn bad_numbers(rt: HostRuntime) {
     let revenue = Some(SettingsFault::BadValue(Key::Revenue));
-    let cost = Some(SettingsFault::BadValue(Key::Cost));
-    let rows: [(&[u8], Option<SettingsFault>); 12] = [
+    let rows: [(&[u8], Option<SettingsFault>); 10] = [
+        (b"revenue = -1", revenue),
         (b"revenue = 1.0", revenue),
+        (b"revenue = 65536", revenue),
         (b"revenue = \"1\"", revenue),
         (b"[revenue]\na = 1", revenue),
         (b"cost = true\nrevenue = []", revenue),
-        (b"cost = 4294967296\ntonnes = -1", cost),
-        (b"mining = -1\ncost = 1", cost),
         (
-            b"processing = -1\nmining = 65536",
-            Some(SettingsFault::BadValue(Key::Processing)),
-        ),
-        (
-            b"mining = 65536\noffsets = 1",
-            Some(SettingsFault::BadValue(Key::Offsets)),
+            b"cost = 4294967296\ntonnes = -1",
+            Some(SettingsFault::BadValue(Key::Cost)),
         ),
         (
             b"factors = []\ntonnes = 65536",
@@ -103,7 +142,6 @@ fn bad_numbers(rt: HostRuntime) {
             Some(SettingsFault::BadValue(Key::Report)),
         ),
         (b"report = 10000", None),
-        (b"mining = 1", None),
     ];
     have_their_faults(&rt, rt.alloc(), &rows);
 }

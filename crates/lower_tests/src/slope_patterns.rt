@@ -1,11 +1,9 @@
-//! Tries which offsets slope patterns have, that a model upside down has the same pairs, and where pairs
-//! are held by grids of places.
+//! Tries which offsets slope patterns have, and which predecessors they give the blocks of a cube, upward and
+//! downward.
 
 use blocks_file::{BlockModel, read_blocks};
-use held_pairs::held_by_region;
-use places::{GridFault, HeldRef, grid_of};
 use prec_file::Rests;
-use slope::rests_of;
+use slope::{predecessors_of, rests_of};
 use slope_offsets::{Pattern, PatternFault, Selection, Up};
 use std::alloc::Global;
 use std::fmt::Debug;
@@ -74,6 +72,15 @@ fn same(one: &Rests, other: &Rests) -> bool {
         }
     }
     true
+}
+
+// What a block rests on.
+fn above(rests: &Rests, block: u32) -> &[u32] {
+    if block < rests.len() {
+        rests.above(block)
+    } else {
+        &[]
+    }
 }
 
 // A pattern has these offsets, in this order.
@@ -163,6 +170,18 @@ fn pairs_of(
     Ok(rests_of(alloc, &model, &pattern, up, Selection::Every)?)
 }
 
+#[test]
+fn nine_above_on_a_cube(rt: HostRuntime) -> Result<(), Fail> {
+    let alloc: Global = rt.alloc();
+    let rests = pairs_of(alloc, CUBE, Pattern::nine(alloc), Up::PlusZ)?;
+    equal(&rt, rests.pairs(), 49);
+    let of_middle = [9, 10, 11, 12, 13, 14, 15, 16, 17];
+    equal(&rt, above(&rests, 4), of_middle.as_slice());
+    equal(&rt, above(&rests, 0), [9, 10, 12, 13].as_slice());
+    equal(&rt, above(&rests, 17).len(), 0);
+    Ok(())
+}
+
 // Whether these have so many pairs, and the same as the mirrored cube has upward.
 fn mirrored(alloc: Global, down: &Rests, pairs: u32) -> Result<bool, Fail> {
     let up = pairs_of(alloc, MIRRORED_CUBE, Pattern::nine(alloc), Up::PlusZ)?;
@@ -177,54 +196,20 @@ fn upside_down(rt: HostRuntime) -> Result<(), Fail> {
     Ok(())
 }
 
-// The fault of a text's blocks in one region with one offset, if there is one.
-fn fault_of(
-    alloc: Global,
-    text: &[u8],
-    offset: (i32, i32, i32),
-) -> Result<Option<GridFault>, Fail> {
-    let model = read_blocks(alloc, text, &[])?;
-    let regions = vec![in alloc; 0; model.len() as usize]?;
-    let mut slopes = Vec::new(alloc);
-    slopes.push(vec![in alloc; offset; 1]?)?;
-    Ok(grid_of(alloc, &model, regions, &slopes, Up::PlusZ).err())
-}
-
 #[test]
-fn faults_of_grids(rt: HostRuntime) -> Result<(), Fail> {
+fn predecessors_alone(rt: HostRuntime) -> Result<(), Fail> {
     let alloc: Global = rt.alloc();
-    let twice = b"0 0 0 0\n1 1 0 0\n2 0 0 1\n3 1 0 0\n4 0 0 0\n";
-    assert_eq!(rt;
-        fault_of(alloc, twice, (0, 0, 1))?,
-        Some(GridFault::SamePlace(1, 3))
-    );
-    let apart = b"0 -2147483648 0 0\n1 2147483647 0 1\n";
-    assert_eq!(rt;
-        fault_of(alloc, apart, (0, 0, 1))?,
-        Some(GridFault::TooWide)
-    );
-    assert_eq!(rt;
-        fault_of(alloc, b"0 0 0 0\n", (0, 0, 0))?,
-        Some(GridFault::TooWide)
-    );
-    assert_eq!(rt; fault_of(alloc, b"0 0 0 0\n", (0, 0, 1))?, None);
-    Ok(())
-}
-
-// Whether the pairs of a text's blocks, which have their region in a column, are held by their places.
-fn are_placed(alloc: Global, text: &[u8]) -> Result<bool, Fail> {
-    let model = read_blocks(alloc, text, &[0])?;
-    let mut slopes = Vec::new(alloc);
-    slopes.push(vec![in alloc; (0, 0, 1); 1]?)?;
-    let held = held_by_region(alloc, &model, &slopes, Up::PlusZ)?;
-    Ok(matches!(held.as_ref(), HeldRef::Placed(_)))
-}
-
-// They are listed only where the box is too wide for a grid.
-#[test]
-fn pairs_are_held_by_places(rt: HostRuntime) -> Result<(), Fail> {
-    assert!(rt; are_placed(rt.alloc(), b"0 0 0 0 0\n1 0 0 1 0\n")?);
-    let apart = b"0 -2147483648 0 0 0\n1 2147483647 0 1 0\n";
-    assert!(rt; !are_placed(rt.alloc(), apart)?);
+    let five = Pattern::five(alloc)?;
+    let cube = model(alloc, CUBE)?;
+    let predecessors = predecessors_of(alloc, &cube, &five, Up::PlusZ, Selection::Every)?;
+    equal(&rt, predecessors.len(), 18);
+    if predecessors.len() == 18 {
+        let above: &[u32] = &[9, 10, 12];
+        equal(&rt, predecessors.above(0), above);
+        let above: &[u32] = &[10, 12, 13, 14, 16];
+        equal(&rt, predecessors.above(4), above);
+        let above: &[u32] = &[];
+        equal(&rt, predecessors.above(13), above);
+    }
     Ok(())
 }

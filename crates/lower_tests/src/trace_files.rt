@@ -1,9 +1,78 @@
-//! Tries with what faults texts that aren't traces are refused.
+//! Tries that a run's trace is written and read back, and with what faults other texts are refused.
 
+use counted_devices::Counted;
+use machine_law::{Event, Kind};
 use std::alloc::Global;
 use std::process::Abort;
 use std::test::Fail;
-use trace_file::{MOST_EVENTS, TraceFault, read_trace};
+use trace_file::{MOST_EVENTS, TraceFault, read_trace, write_trace};
+
+// A run worked out by hand over three blocks, of which block 0 and block 2 rest on block 1: a block, and the kinds of
+// its next steps.
+const RUN: [(&[u8], &[u8]); 23] = [
+    (b"0", b"RE RL RC RL RA"),
+    (b"0", b"RE RL RC RL"),
+    (b"2", b"RE RL RC RL RA"),
+    (b"2", b"RE RL RC RL GC TE GE"),
+    (b"1", b"RE RC RL RC RC RL RA"),
+    (b"1", b"RE RC RL RC RC RL TC TE GE"),
+    (b"1", b"RE RC RC RC RL RA"),
+    (b"1", b"RE RC RC RC RL TC TE GE"),
+    (b"2", b"RE RL RC RL RA"),
+    (b"2", b"RE RL RC RL GC TE GE"),
+    (b"1", b"RE RC RC RC RL RA"),
+    (b"0", b"GC"),
+    (b"0", b"TE GE"),
+    (b"1", b"RE RC RC RL RC RL TC TE GE"),
+    (b"0", b"RE RL RC RL RA"),
+    (b"0", b"RE RL RC RL GC TE GE"),
+    (b"1", b"RE RC RC RL RC RL TC TE GE"),
+    (b"1", b"RE RC RC RL RC RA"),
+    (b"1", b"RE RC RC RL RC TC TE GE"),
+    (b"0", b"RE RL RC RL RA"),
+    (b"0", b"RE RL RC RL TC TE GE"),
+    (b"2", b"RE RL RC RL RA"),
+    (b"2", b"RE RL RC RL TC TE GE"),
+];
+
+// The text of the run.
+fn run_text(alloc: Global) -> Result<Vec<u8>, Fail> {
+    let mut text = Vec::from_slice(alloc, b"PITTRACE 1\n".as_slice())?;
+    for (block, kinds) in &RUN {
+        for kind in kinds.split(|b| *b == b' ') {
+            text.extend_from_slice(kind)?;
+            text.push(b' ')?;
+            text.extend_from_slice(block)?;
+            text.push(b'\n')?;
+        }
+    }
+    text.extend_from_slice(b"END\n")?;
+    Ok(text)
+}
+
+#[test]
+fn a_run_is_read_and_written(rt: HostRuntime) -> Result<(), Fail> {
+    let alloc: Global = rt.alloc();
+    let text = run_text(alloc)?;
+    let events = read_trace(alloc, &text).ok().ok_or("read")?;
+    assert_eq!(rt; events.len(), 140);
+    for (step, block, kind) in [
+        (1, 0, Kind::ReadExcess),
+        (2, 0, Kind::ReadLabel),
+        (3, 0, Kind::ReadCapacity),
+        (5, 0, Kind::RaiseLabel),
+        (19, 2, Kind::GiveCapacity),
+        (20, 2, Kind::TakeExcess),
+        (35, 1, Kind::TakeCapacity),
+        (140, 2, Kind::GiveExcess),
+    ] {
+        assert_eq!(rt; events.get(step - 1), Some(&Event { block, kind }));
+    }
+    let mut out = Counted::new(Vec::new(alloc));
+    assert_eq!(rt; write_trace(&events, &mut out), Ok(()));
+    assert_eq!(rt; out.into_inner().as_slice(), text.as_slice());
+    Ok(())
+}
 
 fn has_fault(rt: &impl Abort, alloc: Global, text: &[u8], wanted: Option<TraceFault>) {
     assert_eq!(rt; read_trace(alloc, text).err(), wanted);
