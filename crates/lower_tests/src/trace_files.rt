@@ -9,38 +9,59 @@ use trace_file::{MOST_EVENTS, TraceFault, read_trace, write_trace};
 
 // A run worked out by hand over three blocks, of which block 0 and block 2 rest on block 1: a block, and the kinds of
 // its next steps.
-const RUN: [(&[u8], &[u8]); 23] = [
-    (b"0", b"RE RL RC RL RA"),
-    (b"0", b"RE RL RC RL"),
-    (b"2", b"RE RL RC RL RA"),
-    (b"2", b"RE RL RC RL GC TE GE"),
-    (b"1", b"RE RC RL RC RC RL RA"),
-    (b"1", b"RE RC RL RC RC RL TC TE GE"),
-    (b"1", b"RE RC RC RC RL RA"),
-    (b"1", b"RE RC RC RC RL TC TE GE"),
-    (b"2", b"RE RL RC RL RA"),
-    (b"2", b"RE RL RC RL GC TE GE"),
-    (b"1", b"RE RC RC RC RL RA"),
-    (b"0", b"GC"),
-    (b"0", b"TE GE"),
-    (b"1", b"RE RC RC RL RC RL TC TE GE"),
-    (b"0", b"RE RL RC RL RA"),
-    (b"0", b"RE RL RC RL GC TE GE"),
-    (b"1", b"RE RC RC RL RC RL TC TE GE"),
-    (b"1", b"RE RC RC RL RC RA"),
-    (b"1", b"RE RC RC RL RC TC TE GE"),
-    (b"0", b"RE RL RC RL RA"),
-    (b"0", b"RE RL RC RL TC TE GE"),
-    (b"2", b"RE RL RC RL RA"),
-    (b"2", b"RE RL RC RL TC TE GE"),
+const RUN: [(&[u8], &[&[u8; 2]]); 23] = [
+    (b"0", &[b"RE", b"RL", b"RC", b"RL", b"RA"]),
+    (b"0", &[b"RE", b"RL", b"RC", b"RL"]),
+    (b"2", &[b"RE", b"RL", b"RC", b"RL", b"RA"]),
+    (b"2", &[b"RE", b"RL", b"RC", b"RL", b"GC", b"TE", b"GE"]),
+    (b"1", &[b"RE", b"RC", b"RL", b"RC", b"RC", b"RL", b"RA"]),
+    (
+        b"1",
+        &[
+            b"RE", b"RC", b"RL", b"RC", b"RC", b"RL", b"TC", b"TE", b"GE",
+        ],
+    ),
+    (b"1", &[b"RE", b"RC", b"RC", b"RC", b"RL", b"RA"]),
+    (
+        b"1",
+        &[b"RE", b"RC", b"RC", b"RC", b"RL", b"TC", b"TE", b"GE"],
+    ),
+    (b"2", &[b"RE", b"RL", b"RC", b"RL", b"RA"]),
+    (b"2", &[b"RE", b"RL", b"RC", b"RL", b"GC", b"TE", b"GE"]),
+    (b"1", &[b"RE", b"RC", b"RC", b"RC", b"RL", b"RA"]),
+    (b"0", &[b"GC"]),
+    (b"0", &[b"TE", b"GE"]),
+    (
+        b"1",
+        &[
+            b"RE", b"RC", b"RC", b"RL", b"RC", b"RL", b"TC", b"TE", b"GE",
+        ],
+    ),
+    (b"0", &[b"RE", b"RL", b"RC", b"RL", b"RA"]),
+    (b"0", &[b"RE", b"RL", b"RC", b"RL", b"GC", b"TE", b"GE"]),
+    (
+        b"1",
+        &[
+            b"RE", b"RC", b"RC", b"RL", b"RC", b"RL", b"TC", b"TE", b"GE",
+        ],
+    ),
+    (b"1", &[b"RE", b"RC", b"RC", b"RL", b"RC", b"RA"]),
+    (
+        b"1",
+        &[b"RE", b"RC", b"RC", b"RL", b"RC", b"TC", b"TE", b"GE"],
+    ),
+    (b"0", &[b"RE", b"RL", b"RC", b"RL", b"RA"]),
+    (b"0", &[b"RE", b"RL", b"RC", b"RL", b"TC", b"TE", b"GE"]),
+    (b"2", &[b"RE", b"RL", b"RC", b"RL", b"RA"]),
+    (b"2", &[b"RE", b"RL", b"RC", b"RL", b"TC", b"TE", b"GE"]),
 ];
 
 // The text of the run.
 fn run_text(alloc: Global) -> Result<Vec<u8>, Fail> {
     let mut text = Vec::from_slice(alloc, b"PITTRACE 1\n".as_slice())?;
     for (block, kinds) in &RUN {
-        for kind in kinds.split(|b| *b == b' ') {
-            text.extend_from_slice(kind)?;
+        for kind in *kinds {
+            text.extend_from_slice(*kind)?;
             text.push(b' ')?;
             text.extend_from_slice(block)?;
             text.push(b'\n')?;
