@@ -26,6 +26,8 @@ RUNS = [
     ("`.blocks` alone, three columns of which none is chosen", ["check.py", "--blocks"]),
     ("`pit slopes`: reading, looking up and writing", ["slopes.py"]),
     ("Whole runs of `pit solve`, by pseudoflow", ["solve_peers.py"]),
+    ("Solving a mine of 29 offsets, by settings and by `.prec`", ["solve_peers.py", "--slopes"]),
+    ("Checking the same", ["check.py", "--slopes"]),
     ("The mine of blocks and periods", ["periods.py"]),
     ("The same by settings with 29 offsets", ["periods.py", "--slopes"]),
     ("Instructions of `pit solve` and `pit check`", ["instructions.py"]),
