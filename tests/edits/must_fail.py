@@ -252,7 +252,7 @@ def verdicts(group, verdict_of):
     ]
     for edit in group:
         goal = edit_groups.goal_of(edit, texts, goals) if goals else None
-        yield (True, "%s: refused: %s" % (edit.label, goal[:160])) if goal else verdict_of(edit)
+        yield (True, "%s: refused: %s" % (edit.label, goal[:200])) if goal else verdict_of(edit)
 
 
 def verdict(edit):
@@ -265,7 +265,7 @@ def verdict(edit):
             raise BadEdit(
                 "its check ended with the status %d: %s" % (status, " / ".join(lines[-3:])[:300])
             )
-        return True, "%s: refused%s: %s" % (edit.label, by, goal_refused(texts, lines)[:160])
+        return True, "%s: refused%s: %s" % (edit.label, by, goal_refused(texts, lines)[:200])
     except BadEdit as bad:
         return False, "%s: cannot be tried: %s" % (edit.label, bad)
 
@@ -275,8 +275,19 @@ def processes():
     return max(1, min(machine.processors(), machine.free_memory() // TRY_MEMORY))
 
 
-def try_each(edits, verdict_of=verdict):
-    """Tries these edits over the libraries that were built, and gives how many were refused and how many not."""
+def as_found(_edit, found):
+    return found
+
+
+def try_each(edits, verdict_of=verdict, confirmed=as_found):
+    """Tries these edits over the libraries that were built, and gives how many were refused and how many not.
+
+    `confirmed` looks again at what was found of each edit.
+    """
+
+    def of_group(group):
+        return [confirmed(*found) for found in zip(group, verdicts(group, verdict_of))]
+
     refused = 0
     groups = edit_groups.groups_of(sorted(edits, key=lambda it: -it.crate.lines()))
     print(
@@ -285,12 +296,7 @@ def try_each(edits, verdict_of=verdict):
         flush=True,
     )
     with ThreadPoolExecutor(processes()) as pool:
-        for done in as_completed(
-            [
-                pool.submit(lambda group: list(verdicts(group, verdict_of)), group)
-                for group in groups
-            ]
-        ):
+        for done in as_completed([pool.submit(of_group, group) for group in groups]):
             for is_refused, said in done.result():
                 print(said, flush=True)
                 refused += is_refused

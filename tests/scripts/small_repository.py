@@ -48,6 +48,21 @@ pub fn before(n: u64) -> u64
 pub fn some_number() -> u64 {
     7
 }
+
+/// The number three after n.
+pub fn third(n: u64) -> u64
+    requires { n + 3 < 2 ^ 64 }
+    ensures { result ≡ n + 3 }
+{
+    n + 3
+}
+"""
+# An answer that fits no other code, though it be right.
+OF_THIRD = """use Rattle.std.specs.Prelude.{◌+◌}
+use Rattle.small.proofs.third.Goals as goal
+
+pub returns : goal.returns
+returns c = λ _. c.args.n + 3
 """
 REFUSED = "file: src/lib.rt\nold:     n + 1\nnew:     n\n"
 ACCEPTED = "file: src/lib.rt\nold:     7\nnew:     8\n"
@@ -83,6 +98,7 @@ def repository(top, room):
         shutil.copy(top / file, tree / file)
     (tree / "crates.txt").write_text("small:\npit: small\n")
     write(tree, "small/src/lib.rt", CODE)
+    write(tree, "small/proofs/third/Answers.antt", OF_THIRD)
     write(tree, "pit/src/main.rt", MAIN)
     write(tree, "pit/stdout", "ACCEPTED\n")
     (tree / "examples" / "copper").mkdir(parents=True)
@@ -148,6 +164,25 @@ def named_edits_are_tried_alone(tree):
     return (status, unknown) == (0, 1) and said.endswith(
         "1 passed, 0 failed\n"
     ) and "no such edit: small/nothing" in told, said + told
+
+
+def an_edit_is_tried_without_an_answer_for_other_code(tree):
+    """What is right is accepted then, and what is wrong is refused by its goal."""
+    write(
+        tree,
+        "small/planted.edits",
+        "edit: wrong\nfile: src/lib.rt\nold:     n + 3\nnew:     n + 2\n\n"
+        "edit: right\nfile: src/lib.rt\nold:     n + 3\nnew:     3 + n\n",
+    )
+    status, said = ran(tree, "tests/run", "--planted", "small")
+    wanted = (
+        "small/wrong: refused, also without `returns`: note: src/lib.rt:",
+        "small/right: ACCEPTED without `returns`",
+    )
+    return (
+        status == 1 and all(it in said for it in wanted) and said.endswith("1 passed, 1 failed\n"),
+        said,
+    )
 
 
 def edits_are_tried_by_their_function(tree):
@@ -967,6 +1002,7 @@ def installs_where_the_caller_stands(top, folder):
 # the build comes first: the copies in which edits are tried begin with what it made
 CASES = [
     a_build_says_what_it_proved,
+    an_edit_is_tried_without_an_answer_for_other_code,
     edits_are_tried_by_their_function,
     edits_of_several_functions_are_tried_by_one_check,
     refused_edits_pass,

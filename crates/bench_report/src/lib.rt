@@ -15,7 +15,7 @@
 //!
 //! An example: of three blocks the last is in the shell 500, the others are in 1000, and they are worth 6, -5 and 3.
 //! Their tonnes are in column 2. [`rows`] gives three rows, and [`write_report`] writes them after the names of the
-//! columns. Tried in `checker_tests/src/bench_tables.rt`.
+//! columns. Tried in `lower_tests/src/bench_tables.rt`.
 //!
 //! ```rust
 //! rows(alloc, &model, series, 1, worths)

@@ -12,7 +12,7 @@
 //! An example: after the four lines of a header over three blocks come those of the pit and the flow. A block that
 //! comes too late is refused by its line, the sixth, and a text that ends after its header is a certificate of the
 //! empty pit. The header of another text, of 16,777,216 blocks at a factor of 10,000, is read before its body. Tried in
-//! `checker_tests/src/certificates.rt`.
+//! `lower_tests/src/certificates.rt`.
 //!
 //! ```rust
 //! const HEADER: &[u8] = b"PITCERT 1\nBLOCKS 3\nPRICE OBJECTIVE\nGROUP WORTH\n";

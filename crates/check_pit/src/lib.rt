@@ -8,7 +8,7 @@
 //!
 //! An example: three blocks are worth 6, 5 and -10, and the first two rest on the third. By a flow in which the source
 //! gives 6 and 4 and the sink takes 10, [`check`] accepts the pit of all three, which is worth 1. Tried in
-//! `checker_tests/src/pits_and_flows.rt`; as the text of a certificate, in `checker_tests/src/certificate_streams.rt`.
+//! `lower_tests/src/pits_and_flows.rt`; as the text of a certificate, in `lower_tests/src/certificate_streams.rt`.
 //!
 //! ```rust
 //! net_of(

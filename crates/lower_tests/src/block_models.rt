@@ -32,11 +32,10 @@ fn place(blocks: &BlockModel, block: u32) -> Option<Place> {
 }
 
 fn value(blocks: &BlockModel, i: u32, block: u32) -> Option<i64> {
-    if i < blocks.columns() && block < blocks.len() {
-        Some(blocks.column(i, block).get())
-    } else {
-        None
+    if i >= blocks.columns() || block >= blocks.len() {
+        return None;
     }
+    Some(blocks.column(i, block).get())
 }
 
 // What the first three columns say of a block.

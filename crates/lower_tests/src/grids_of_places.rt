@@ -13,7 +13,8 @@ use std::test::Fail;
 
 // The next of numbers that look like chance.
 fn next(seed: u32) -> u32 {
-    seed.wrapping_mul(1_664_525).wrapping_add(1_013_904_223)
+    let wide = seed as u64 * 1_664_525 + 1_013_904_223;
+    (wide % 4_294_967_296) as u32
 }
 
 // A box of five by four by three places about the origin, of which a quarter are empty. In the one column stands a
@@ -87,12 +88,12 @@ fn all_lead(grid: &Grid, regions: &[u8], first: &Predecessors, second: &Predeces
 // These lists of offsets, one a region.
 fn slopes_of(
     alloc: Global,
-    lists: [&[(i32, i32, i32)]; 2],
+    first: &[(i32, i32, i32)],
+    second: &[(i32, i32, i32)],
 ) -> Result<Vec<Vec<(i32, i32, i32)>>, Fail> {
     let mut slopes = Vec::new(alloc);
-    for offsets in lists {
-        slopes.push(Vec::from_slice(alloc, offsets)?)?;
-    }
+    slopes.push(Vec::from_slice(alloc, first)?)?;
+    slopes.push(Vec::from_slice(alloc, second)?)?;
     Ok(slopes)
 }
 
@@ -105,7 +106,7 @@ fn grid_by(
     up: Up,
 ) -> Result<Option<Grid>, Fail> {
     let regions = regions_of(alloc, model, seed)?;
-    let slopes = slopes_of(alloc, [patterns[0].offsets(), patterns[1].offsets()])?;
+    let slopes = slopes_of(alloc, patterns[0].offsets(), patterns[1].offsets())?;
     Ok(grid_of(alloc, model, regions, &slopes, up).ok())
 }
 
@@ -189,13 +190,14 @@ fn are_held(held: HeldRef<'_>, list: &Predecessors) -> bool {
     true
 }
 
-// The offsets of a second region, one of them twice.
+// The offsets of a region, and of a second one, one of them twice.
+const FIRST: [(i32, i32, i32); 5] = [(0, 0, 1), (1, 0, 1), (-1, 0, 1), (0, 1, 1), (0, -1, 1)];
+
 const SECOND: [(i32, i32, i32); 5] = [(0, 0, 1), (1, -1, 1), (0, 0, 2), (1, -1, 1), (-4, 3, 2)];
 
 // The offsets of two regions.
 fn two_regions(alloc: Global) -> Result<Vec<Vec<(i32, i32, i32)>>, Fail> {
-    let nine = Pattern::nine(alloc)?;
-    slopes_of(alloc, [nine.offsets(), &SECOND])
+    slopes_of(alloc, &FIRST, &SECOND)
 }
 
 #[test]

@@ -57,7 +57,7 @@ fn board_of_dear_waste(rt: &impl Abort, alloc: Global) -> Board<WorthSize> {
 // A block that has no operation, and one that there isn't, count as none. One after the last from which is looked counts
 // as the first.
 #[test]
-fn an_own_block_goes_before_those_that_wait(rt: HostRuntime) {
+fn which_block_a_turn_takes(rt: HostRuntime) {
     let limit = Turn::Ended(End::Limit);
     let rows = [
         (Some(3), 1, 100, begins(1)),

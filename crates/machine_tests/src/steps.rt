@@ -132,10 +132,11 @@ fn is_flow(rt: &impl Abort, state: &State<Worth>, net: &Net<Worth>, after: After
 
 // What two of the steps saw.
 fn is_known(rt: &impl Abort, steps: u64, saw: Saw<Worth>) {
-    match steps {
-        69 => same(rt, saw, Saw::Raised(4)),
-        70 => same(rt, saw, Saw::Moved(worth(4))),
-        _ => {}
+    if steps == 69 {
+        same(rt, saw, Saw::Raised(4));
+    }
+    if steps == 70 {
+        same(rt, saw, Saw::Moved(worth(4)));
     }
 }
 
@@ -352,7 +353,7 @@ fn is_not_quiet(rt: &impl Abort, state: State<Worth>, net: &Net<Worth>)
 }
 
 #[test]
-fn a_state_that_is_not_quiet(rt: HostRuntime) {
+fn who_waits_in_a_state_that_is_not_quiet(rt: HostRuntime) {
     let alloc = rt.alloc();
     let net: Net<Worth> = two_on_waste(&rt, alloc);
     let mut state = State::open(alloc, &net).expect(&rt, "memory");

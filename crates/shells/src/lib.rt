@@ -18,7 +18,7 @@
 //!
 //! An example: three blocks earn 10, 0 and 4, and cost 4, 5 and 1, and the first rests on the second. A series takes
 //! the best pit at 500 thousandths, the last block, and that at 1000, all three; it refuses another at 1000. Then the
-//! shell of the last block is 500, and that of the others 1000. Tried in `checker_tests/src/prices_and_series.rt`.
+//! shell of the last block is 500, and that of the others 1000. Tried in `lower_tests/src/prices_and_series.rt`.
 //!
 //! ```rust
 //! pub const REVENUE: [i64; 3] = [10_000_000, 0, 4_000_000];

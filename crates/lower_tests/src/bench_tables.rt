@@ -1,9 +1,8 @@
-//! Tries the bench table of three blocks in two shells, inputs of different lengths, sums that
-//! don't fit, and a device that is full.
+//! Tries the bench table of three blocks in two shells, inputs of different lengths, and sums that don't fit.
 
 use crate::pits_and_flows::same;
 use crate::prices_and_series::{listed, with_two_pits};
-use bench_report::{BenchRow, ReportFault, ReportWriteFault, rows, write_report};
+use bench_report::{BenchRow, ReportFault, rows, write_report};
 use blocks_file::read_blocks;
 use counted_devices::Counted;
 use shells::Series;
@@ -105,13 +104,4 @@ fn sums_and_lengths(rt: HostRuntime) {
     for (worths, fault) in cases {
         faults(&rt, rt.alloc(), &series, blocks, worths, fault);
     }
-}
-
-#[test]
-fn a_full_device(rt: HostRuntime) {
-    let mut room = [0; 20];
-    let mut out = Counted::new(room.as_mut_slice());
-    let fault = write_report(rt.alloc(), &[], &mut out).err();
-    assert!(rt; fault == Some(ReportWriteFault::Device));
-    assert!(rt; room == *b"z,shell,blocks,tonne");
 }
