@@ -67,7 +67,10 @@ def production(name):
     from pitplan.schedule.plan import production_for
 
     row = shells.table().iloc[-1]
-    rates = {"mining_rate": row.rock_t / years, "mill_rate": row.ore_t * study.priced.feed / years}
+    rates = {
+        "mining_rate": row.rock_t / years,
+        "mill_rate": row.ore_t * study.priced.ways[0].feed / years,
+    }
     return study, production_for(shells, {"years": years + 1, **rates, **more}, {"discount": 0.08})
 
 
