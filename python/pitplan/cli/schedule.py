@@ -349,8 +349,10 @@ def _warn_of_rest(schedule: Schedule, years: pd.DataFrame) -> None:
         return
     rock = printed_scale(years["rock_t"], study.model.units.weight)
     is_full = len(years) == schedule.production.terms.periods  # up to the last that digs anything
+    is_closed = bool((schedule.production.capacities[:, -1] == 0).any())
+    more = "a last rate above 0 in [schedule], which is that of all years after it"
     warn(
         f"{left.blocks:,} {'block of the pit stays' if left.blocks == 1 else 'blocks of the pit stay'}"
         f" in the ground, {rock.said(left.tonnes)} worth {study.currency} {left.worth:,.0f} undiscounted"
-        + ("\n  try: more years in [schedule]" if is_full else "")
+        + (f"\n  try: {more}" if is_closed else "\n  try: more years in [schedule]" * is_full)
     )

@@ -2,6 +2,7 @@
 from __future__ import annotations
 
 import shlex
+from contextlib import suppress
 from enum import Enum
 from pathlib import Path
 from typing import TYPE_CHECKING, Optional
@@ -136,7 +137,11 @@ def status(folder: Path = STUDY) -> None:
     from ..tasks.status import FAILED, RUNNING, STATES, seconds_left, states
     from ..tasks.tasks import wanted
 
-    study = open_study(folder)
+    try:
+        study = open_study(folder)
+    except PlanError:
+        _say_older_plan(folder)
+        raise
     in_hand: dict[Task, Handed] = {}
     try:
         in_hand = in_slurm(study)
@@ -173,6 +178,18 @@ def status(folder: Path = STUDY) -> None:
         say(last)
 
 
+def _say_older_plan(folder: Path) -> None:
+    """What the plan by years of a study was worth that has changed since it was built."""
+    from ..schedule.last_plan import last_plan
+    from ..study.study import Study
+
+    with suppress(PlanError):
+        study = Study(folder)
+        found = last_plan(study.folder, study.key, {}, {})
+        if found is not None:
+            say(f"plan by years: {found.words(study.currency)}")
+
+
 def _say_plan(study: Study, plan: StudyFile) -> None:
     """Whether there is a plan by years, what it is worth, and whether it is of study.toml as it
     stands."""
@@ -186,8 +203,8 @@ def _say_plan(study: Study, plan: StudyFile) -> None:
     again = command("schedule", study.named)
     if found is None:
         is_kept = (study.folder / "runs" / "schedule" / "schedule.npz").is_file()
-        said = "none shown of this model, but one was found before" if is_kept else "none yet"
-        say(f"plan by years: {said}; {again} {'goes on' if is_kept else 'finds one'}")
+        said = "none of this model yet, but a search was begun" if is_kept else "none yet"
+        say(f"plan by years: {said}; {again} finds one")
         return
     more = f"; {again} finds it anew" if found.is_stale else ""
     say(f"plan by years: {found.words(study.currency)}{more}")

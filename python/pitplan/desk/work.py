@@ -197,6 +197,10 @@ def overview(study: Path) -> _Json:
     answer |= {"blocks": built.manifest["blocks"], "currency": built.currency}
     try:
         file = read_study_file(study)
+    except PlanError as error:
+        said = ["bad", "study.toml has a mistake", error.said]
+        return {**answer, "old": error.said, "said": said, "plan": plan_said(built, {}, {})}
+    try:
         built.refuse_changed(file.path, file.digest, file.table)
     except PlanError as error:
         said = ["warn", "changed since it was built", error.said]

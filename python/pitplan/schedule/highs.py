@@ -7,6 +7,7 @@ import io
 import json
 import os
 import shutil
+import signal
 import struct
 import subprocess
 import sys
@@ -27,9 +28,20 @@ from ..base.interrupts import raise_if_asked
 _PACKAGE = str(Path(__file__).resolve().parents[2])  # the folder that has pitplan
 _CODE = f"import sys; sys.path.insert(0, {_PACKAGE!r}); from pitplan.schedule.highs import serve; serve()"
 _LENGTH = struct.Struct("<Q")  # of what follows, in bytes
+# How its process ends where HiGHS fails within itself, as after it spoilt its own memory.
+_FAILED = {
+    -each for each in (signal.SIGABRT, signal.SIGSEGV, signal.SIGBUS, signal.SIGFPE, signal.SIGILL)
+}
+_NO_ANSWER = 4  # SciPy's status of a program that came to no end
+_MOST_FAILURES = 5  # of whole shares, one after the other
 _LOCK = threading.Lock()
+_failures = 0  # since the last answer
 _idle: list[_Solver] = []
 _busy: set[_Solver] = set()
+
+
+class _Failed(MachineError):
+    """HiGHS failed within itself, which another program, or another try, need not do."""
 
 
 @dataclass
@@ -39,7 +51,7 @@ class Answer:
     Attributes
     ----------
     status : int
-        SciPy's: 0 for the best, 1 at a limit, and others.
+        SciPy's: 0 for the best, 1 at a limit, and others; 4 where HiGHS failed within itself.
     message : str
         The same in words.
     shares : Floats or None
@@ -71,16 +83,37 @@ def milp(gains: Floats, table: Any, limits: Floats, **options: float) -> Answer:
     Raises
     ------
     MachineError
-        Where its process was ended, as where memory is short.
+        Where its process was ended, as where memory is short, or HiGHS failed within itself five
+        times, one after the other.
     KeyboardInterrupt
         Where it was ended by `stop` after ctrl-C.
     """
-    return _solved({"options": options}, gains, table, limits)
+    try:
+        found = _solved({"options": options}, gains, table, limits)
+    except _Failed as error:
+        if _failed_again() >= _MOST_FAILURES:
+            raise
+        return Answer(_NO_ANSWER, str(error), None, np.zeros(0))
+    _failed_again(back_to=0)
+    return found
+
+
+def _failed_again(back_to: int | None = None) -> int:
+    """Counts a failure, or from the beginning; how many there were since an answer."""
+    global _failures
+    with _LOCK:
+        _failures = _failures + 1 if back_to is None else back_to
+        return _failures
 
 
 def linprog(gains: Floats, table: Any, limits: Floats, method: str, **options: float) -> Answer:
-    """Likewise of shares that may be parts, by a method of `scipy.optimize.linprog`."""
-    return _solved({"method": method, "options": options}, gains, table, limits)
+    """Likewise of shares that may be parts, by a method of `scipy.optimize.linprog`. It is tried
+    twice where HiGHS fails within itself."""
+    words = {"method": method, "options": options}
+    try:
+        return _solved(words, gains, table, limits)
+    except _Failed:
+        return _solved(words, gains, table, limits)
 
 
 def begin(count: int) -> None:
@@ -183,16 +216,26 @@ def _solved(words: dict[str, Any], gains: Floats, table: Any, limits: Floats) ->
         if not isinstance(error, (EOFError, OSError)):
             raise
         raise_if_asked()
-        raise MachineError(
-            "the process of HiGHS was ended: memory was short, or somebody ended it",
-            try_this="the same command, which goes on; or a machine with more memory",
-        ) from None
+        raise _how_it_ended(process.run.returncode) from None
     finally:
         with _LOCK:
             _busy.discard(process)
     with _LOCK:
         _idle.append(process)
     return found
+
+
+def _how_it_ended(status: int) -> MachineError:
+    """The error of a process that gave no answer, by its status."""
+    if status in _FAILED:
+        return _Failed(
+            f"HiGHS failed within itself, by {signal.Signals(-status).name}",
+            try_this="the same command, which goes on",
+        )
+    return MachineError(
+        "the process of HiGHS was ended: memory was short, or somebody ended it",
+        try_this="the same command, which goes on; or a machine with more memory",
+    )
 
 
 def _found(words: dict[str, Any], arrays: Any) -> Any:

@@ -60,17 +60,32 @@ class _LastPlan:
         return f"net present value {currency} {math.floor(self.npv):,}, {gap}{judged}{stale}"
 
     def short(self, currency: str) -> str:
-        """What it is worth, and how far it is below its bound, or that it is old."""
+        """What it is worth, and how far it is below its bound, or that it is old; and whether its
+        search was stopped."""
         worth = "none yet" if self.npv is None else f"{self.npv / 10**6:,.1f} million {currency}"
         gap = "" if self.gap is None else f", at most {gap_text(self.gap)} below its bound"
-        return worth + (", of older terms" if self.is_stale else gap)
+        stopped = "" if self.is_judged else ", of a search that was stopped"
+        return worth + (", of older terms" if self.is_stale else gap) + stopped
 
 
 def basis_of(model: str, values: Mapping[str, Any], rates: Mapping[str, Any]) -> dict[str, str]:
     """What ``schedule.json`` says of what its plan rests on: a digest of the model's key, the values
-    of [schedule], and the rates that [shells] and processes give."""
-    text = json.dumps([model, dict(values), dict(rates)], sort_keys=True, default=str)
+    of [schedule], and the rates that [shells] and processes give where it has none of its own."""
+    others = {name: rate for name, rate in rates.items() if values.get(name) is None}
+    text = json.dumps([model, _plain(values), _plain(others)], sort_keys=True, default=str)
     return {"basis": hashlib.sha256(text.encode()).hexdigest()}
+
+
+def _plain(value: Any) -> Any:
+    """The same for values that mean the same: 1 and 1.0, and a list that says its last value twice."""
+    if isinstance(value, Mapping):
+        return {name: _plain(each) for name, each in value.items()}
+    if isinstance(value, (list, tuple)):
+        found = [_plain(each) for each in value]
+        while len(found) > 1 and found[-1] == found[-2]:
+            found.pop()
+        return found
+    return float(value) if isinstance(value, int) and not isinstance(value, bool) else value
 
 
 def last_plan(

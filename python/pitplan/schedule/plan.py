@@ -30,6 +30,14 @@ if TYPE_CHECKING:
 _WHOLE = Decimal(100)
 
 
+def _what_would_pay(made: Production) -> str:
+    """What to try where nothing is dug that pays."""
+    if not (made.capacities > 0).all(axis=0).any():
+        return "rates that are above 0 in the same year: no year has all of them"
+    less = "a lower fixed_cost, " if made.terms.fixed_cost else ""
+    return f"{less}mining_rate and mill_rate in tonnes a year, or more years"
+
+
 class _Left(NamedTuple):
     """What of a pit stays in the ground: blocks of rock, tonnes, and what they are worth."""
 
@@ -194,7 +202,7 @@ class Schedule:
             raise PlanError(
                 "[schedule] by these terms nothing is dug that pays: no block fits with all above"
                 " it, or none brings anything in these years",
-                try_this="mining_rate and mill_rate in tonnes a year, or more years",
+                try_this=_what_would_pay(made),
                 key=("schedule",),
             )
         search.tell("pit judges the schedule")

@@ -328,7 +328,7 @@ def pushbacks_of(shares: Sequence[float]) -> tuple[int, ...]:
             raise PlanError(
                 f"[schedule] pushbacks = {list(shares)} don't ascend to below 1: the rest of the pit"
                 " at the full price is the last",
-                try_this="pushbacks = [0.5, 0.75]",
+                try_this=f"pushbacks = {sorted({s for s in shares if 0 < s < 1}) or [0.5, 0.75]}",
             )
     return found
 
@@ -352,9 +352,12 @@ def refuse_missing(pushbacks: Sequence[int], factors: Collection[int], then: str
     for factor in pushbacks:
         if factor not in factors:
             share = share_text(factor)
+            near = sorted(sorted(factors, key=lambda each: abs(each - factor))[:2])
+            there = " and ".join(share_text(each) for each in near)
             raise PlanError(
-                f"[schedule] pushbacks has {share}, and [shells] factors has no {share}",
-                try_this=f"{share} among the factors, and {then}",
+                f"[schedule] pushbacks has {share}, and [shells] factors has no {share}"
+                + (f": nearest are {there}" if there else ""),
+                try_this=f"one of these, or {share} among the factors, and {then}",
                 key=("schedule", "pushbacks"),
             )
 

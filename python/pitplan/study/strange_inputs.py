@@ -500,8 +500,37 @@ def _of_schedule_rates(model: Model, priced: Priced, terms: Mapping[str, Any]) -
         (what, rate and float(np.max(rate)), amount, f"{name} in [schedule]", ("schedule", name))
         for what, rate, amount, name in asked
     )
+    for what, rate, _, name in asked:
+        if isinstance(rate, (list, tuple)):
+            said = f"{name}, {what}," if name == "process_rates" else name
+            yield from _of_years(rate, said, ("schedule", name))
 
 
+def _of_years(rates: Sequence[float], name: str, key: KeyPath) -> Iterator[Strange]:
+    """A year's rate that is a small part of another's, as of a comma that was meant for a point; and
+    a last one of 0, which is that of all years after it."""
+    most = max(rates)
+    for year, rate in enumerate(rates, 1):
+        if 0 < rate < most / _USUAL_SPREAD:
+            yield Strange(
+                f"year {year} of {name} in [schedule] has {rounded(rate, 6)} tonnes,"
+                f" and another {rounded(most, 6)}",
+                "rates of years are rarely a hundred times apart",
+                "each year's in tonnes, with a point and not a comma in a number, as 1.5e6",
+                key,
+            )
+            return
+    if most > 0 and len(rates) > 1 and rates[-1] == 0:
+        yield Strange(
+            f"{name} in [schedule] ends in 0, which is the rate of year {len(rates)} and of all years"
+            " after it",
+            "what isn't dug before stays in the ground",
+            f"a last rate above 0 in {name}, if the mine goes on",
+            key,
+        )
+
+
+_USUAL_SPREAD = 100  # of rates of years, at most
 _Rate = tuple[str, Optional[float], float, str, KeyPath]  # of what, its tonnes, words, key
 
 

@@ -454,12 +454,22 @@ def _mill_rates(document: Mapping[str, Any]) -> list[PlanError]:
     return [
         PlanError(
             f"[{name}] mill_rate says the rate of a mill, and there are processes: of which is it?",
-            try_this=f"take it out, and rate = {toml_spelled(section['mill_rate'])} in one of [[economics.processes]]",
+            try_this=f"take it out, and {_rate_of_one(economics, section['mill_rate'])}",
             key=(name, "mill_rate"),
         ).with_remedy(Remedy((name, "mill_rate"), None))
         for name in ("shells", "schedule")
         if isinstance(section := document.get(name), Mapping) and "mill_rate" in section
     ]
+
+
+def _rate_of_one(economics: Mapping[str, Any], rate: Any) -> str:
+    """How the rate of a mill is told of one of several processes; a list by year has a place of its own."""
+    if not isinstance(rate, list):
+        return f"rate = {toml_spelled(rate)} in one of [[economics.processes]]"
+    processes = economics[study_keys.PROCESSES]
+    names = [each.get("name") for each in processes if isinstance(each, Mapping)]
+    name = next((each for each in names if isinstance(each, str)), "NAME")
+    return f"process_rates = {toml_spelled({name: rate})} in [schedule], with the name of one"
 
 
 def _wrong_in_section(

@@ -115,8 +115,8 @@ def _renamed(name: str, value: Any, known: Iterable[str], there: Mapping[str, An
 
 
 def _as_shown(value: Any) -> str:
-    """A wrong value in an error: tables and lists as TOML spells them."""
-    return toml_spelled(value) if isinstance(value, (dict, list, tuple)) else repr(value)
+    """A wrong value in an error: tables, lists and flags as TOML spells them."""
+    return toml_spelled(value) if isinstance(value, (dict, list, tuple, bool)) else repr(value)
 
 
 def _wrong_ramp(value: Mapping[str, Any], where: str, at: KeyPath) -> PlanError | None:
@@ -233,15 +233,30 @@ def _first_wrong_rate(key: Key, value: Any) -> str:
 def _as_may_be(key: Key, value: Any) -> str | None:
     """A key of [schedule] with a value that it may have: one of its choices, the nearest number, or an
     example. Of other sections none: what their values have to be says it."""
+    if key.section == "shells" and key.name in ("mining_rate", "mill_rate") and is_list(value):
+        return f"one number here; a list by year stands in [schedule]: {key.name} = {toml_spelled(value)}"
     if key.section != "schedule":
         return None
     if key.choices:
         return f"{key.name} = " + " or ".join(map(toml_spelled, key.choices))
-    nearest = min(max(value, key.least), key.most) if is_number(value) else None
-    if key.kind == "count" and nearest is not None:
-        nearest = int(nearest)
-    example = toml_spelled(nearest) if key.holds(nearest) else KINDS[key.kind].example
-    return f"{key.name} = {example}"
+    near = _nearest(key, value)
+    if near is not None and key.holds(near):
+        return f"{key.name} = {toml_spelled(near)}"
+    # of a number that may not come to an end of its range
+    told = re.search(r", as (\S+)$", key.must)
+    return f"{key.name} = {told[1] if told and is_number(value) else KINDS[key.kind].example}"
+
+
+def _nearest(key: Key, value: Any) -> Any:
+    """The nearest value that may be meant: a number within the range, the only one of a list, or a
+    list without its signs; None where there is none."""
+    if is_list(value) and all(map(is_number, value)):
+        bare = [abs(each) for each in value]
+        return bare if key.holds(bare) or len(bare) != 1 else _nearest(key, value[0])
+    if not is_number(value):
+        return None
+    nearest = min(max(value, key.least), key.most)
+    return int(nearest) if key.kind == "count" else nearest
 
 
 def of_percent(value: float) -> float:

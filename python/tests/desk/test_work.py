@@ -343,7 +343,7 @@ def test_what_a_plan_by_years_refuses_is_told_as_check_does(desk):
     ran = pitplan("check", study)
     assert [each["key"] for each in answer] == [["schedule", "pushbacks"]]
     assert answer[0]["said"] in ran.stderr, ran.stderr
-    assert answer[0]["try"] == "pushbacks = [0.5, 0.75]"
+    assert answer[0]["try"] == "pushbacks = [0.4, 0.8]"
 
 
 def test_a_table_that_is_corrected_is_noticed_and_its_rows_are_counted_anew(desk):

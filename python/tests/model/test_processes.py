@@ -340,6 +340,14 @@ def test_errors_of_a_process_have_its_line(tmp_path):
         assert line in line_of(path.read_text(), each.key)[1]
 
 
+def test_rates_by_year_of_a_mill_are_told_as_those_of_a_process(tmp_path):
+    path = two_ways.written(tmp_path) / "study.toml"
+    path.write_text(path.read_text() + "\n[schedule]\nmill_rate = [0, 6e5]\n")
+    with pytest.raises(PlanError) as error:
+        read_study_file(path.parent)
+    assert "process_rates = { mill = [0, 600000] } in [schedule]" in str(error.value)
+
+
 def test_a_rate_asks_for_no_new_build(tmp_path):
     file = read_study_file(two_ways.written(tmp_path))
     Building(tmp_path, file.read_model(), file.economics, file.slopes, keys=file.digest)

@@ -109,3 +109,67 @@ def test_a_process_that_somebody_ends_is_told(hard):
         highs.milp(*hard, time_limit=LONG)
     again = highs.milp(np.array([1.0]), csr_matrix([[1.0]]), np.array([1.0]))
     assert again.shares.tolist() == [1.0]
+
+
+@pytest.fixture
+def failing(monkeypatch, tmp_path):
+    """HiGHS fails within itself in each process that is started while a file is there, which it is
+    not after the first one where it is to fail once."""
+
+    def fails(is_once):
+        there = tmp_path / "fails"
+        there.touch()
+        code = f"""
+import os, sys
+from pathlib import Path
+sys.path.insert(0, {highs._PACKAGE!r})
+from pitplan.schedule import highs
+there = Path({str(there)!r})
+if there.exists():
+    highs._receive(sys.stdin.buffer)
+    if {is_once}:
+        there.unlink()
+    os.abort()
+highs.serve()
+"""
+        monkeypatch.setattr(highs, "_CODE", code)
+        monkeypatch.setattr(highs, "_failures", 0)
+        for each in highs._idle:
+            each.end()
+        highs._idle.clear()
+
+    yield fails
+    for each in highs._idle:
+        each.end()
+    highs._idle.clear()
+
+
+ONE = np.array([1.0]), csr_matrix([[1.0]]), np.array([1.0])
+
+
+def test_a_failure_within_highs_is_no_answer(failing):
+    failing(is_once=True)
+    found = highs.milp(*ONE)
+    assert (found.status, found.shares) == (4, None)
+    assert found.message.startswith("HiGHS failed within itself, by SIGABRT")
+    assert highs.milp(*ONE).shares.tolist() == [1.0]
+    assert highs._failures == 0
+
+
+def test_five_failures_within_highs_end_the_search(failing):
+    failing(is_once=False)
+    for _ in range(4):
+        assert highs.milp(*ONE).shares is None
+    with pytest.raises(MachineError, match="HiGHS failed within itself, by SIGABRT"):
+        highs.milp(*ONE)
+
+
+def test_a_relaxation_is_tried_twice(failing):
+    failing(is_once=True)
+    assert highs.linprog(*ONE, "highs-ds").shares.tolist() == [1.0]
+
+
+def test_a_relaxation_that_fails_twice_is_told(failing):
+    failing(is_once=False)
+    with pytest.raises(MachineError, match="HiGHS failed within itself"):
+        highs.linprog(*ONE, "highs-ds")

@@ -1,6 +1,8 @@
 """What `pitplan status` and the desk's list of studies say of a plan by years."""
 import json
 import re
+import subprocess
+import sys
 from decimal import Decimal
 
 import pytest
@@ -8,7 +10,7 @@ import pytest
 from pitplan.base.kept_json import Damaged
 from pitplan.desk.work import overview
 from pitplan.schedule.last_plan import basis_of, last_plan
-from planned import built, run
+from planned import PITPLAN, built, run
 
 MODEL, VALUES, RATES = "0" * 64, {"years": 6, "mill_rate": [0, 4e5]}, {"discount": 0.08}
 
@@ -42,11 +44,33 @@ def test_of_another_model_or_other_terms_it_is_stale(tmp_path, model, values, ra
     assert found.words("$").endswith(", but of other terms or prices than study.toml has now")
 
 
+@pytest.mark.parametrize(
+    "values, rates",
+    [
+        ({"mill_rate": [0.0, 400_000]}, RATES),
+        ({"mill_rate": [0, 4e5, 4e5]}, RATES),
+        ({}, {**RATES, "mill_rate": 1.0}),
+    ],
+)
+def test_of_the_same_terms_in_other_words_it_is_not(tmp_path, values, rates):
+    assert not last_plan(written(tmp_path), MODEL, {**VALUES, **values}, rates).is_stale
+
+
+def test_a_study_with_a_mistake_is_not_one_that_was_changed(tmp_path):
+    folder = built(tmp_path / "s")
+    text = (folder / "study.toml").read_text()
+    (folder / "study.toml").write_text(text.replace("[schedule]", '[schedule]\nwhen = "endd"'))
+    said = overview(folder)["said"]
+    assert said[:2] == ["bad", "study.toml has a mistake"]
+    assert "when" in said[2]
+
+
 def test_a_stopped_search_is_told(tmp_path):
     found = last_plan(
         written(tmp_path, npv=None, gap_percent=None, is_judged=False), MODEL, VALUES, RATES
     )
     assert found.words("$") == "its search was stopped before it had one"
+    assert found.short("$") == "none yet, of a search that was stopped"
 
 
 def test_without_a_file_there_is_none_and_a_damaged_one_is_told(tmp_path):
@@ -76,6 +100,12 @@ def test_status_and_the_desk_say_whether_there_is_a_plan(tmp_path):
     assert "of other terms or prices than study.toml has now" in said(folder)
     plan = overview(folder)["plan"]
     assert plan[:2] == ["warn", f"{worth / 1e6:,.1f} million $, of older terms"]
+    (folder / "study.toml").write_text(text.replace("price = 24000", "price = 23000"))
+    words = [sys.executable, PITPLAN, "status", folder]
+    changed = subprocess.run(words, capture_output=True, text=True)
+    assert changed.returncode == 3
+    assert f"plan by years: net present value $ {worth:,}, at most " in changed.stdout
+    assert "but of other terms or prices" in changed.stdout
     (folder / "out" / "schedule.json").write_text("{}")
     assert overview(folder)["plan"][:2] == ["bad", "its file is damaged"]
 

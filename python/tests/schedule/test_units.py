@@ -120,6 +120,8 @@ def test_check_says_in_which_order_pushbacks_will_be_dug(tmp_path):
     [
         ("[0.55, 0.7]", "[schedule] pushbacks has 0.55, and [shells] factors has no 0.55"),
         ("[0.8, 0.6]", "[schedule] pushbacks = [0.8, 0.6] don't ascend"),
+        ("[0.8, 0.6]", "try: pushbacks = [0.6, 0.8]"),
+        ("[0.55, 0.7]", ": nearest are 0.25 and 1"),
     ],
 )
 def test_check_refuses_what_schedule_would(tmp_path, pushbacks, words):

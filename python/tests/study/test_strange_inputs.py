@@ -213,6 +213,20 @@ LOOKS = [
         ("schedule", "mining_rate"),
     ),
     (
+        "a decimal comma in a rate by year",
+        ("mill_rate = 5e5", "mill_rate = 5e5\n[schedule]\nmill_rate = [0, 1,5e5]"),
+        None,
+        "year 2 of mill_rate in [schedule] has 1 tonnes, and another 500,000",
+        ("schedule", "mill_rate"),
+    ),
+    (
+        "a last rate of 0",
+        ("mill_rate = 5e5", "mill_rate = 5e5\n[schedule]\nmill_rate = [0, 5e5, 0]"),
+        None,
+        "mill_rate in [schedule] ends in 0, which is the rate of year 3 and of all years after it",
+        ("schedule", "mill_rate"),
+    ),
+    (
         "a discount of a point moved",
         ("discount = 0.08", "discount = 0.85"),
         None,

@@ -260,7 +260,7 @@ TOLD = [
     (("model", "missing"), 5, '"refuse", "air" or "rock"; is \'air\' meant?'),
     (("economics", "minning"), 8, "has no key 'minning'; is 'mining' meant?"),
     (("economics", "mining"), 7, "has no mining"),
-    (("economics", "processing"), 9, "processing is True"),
+    (("economics", "processing"), 9, "processing is true"),
     (("economics", "dilution"), 10, "a number from 0 to 1"),
     (("economics", "metals", "copper", "price"), 12, "try: price = 0, selling = 8500"),
     (("economics", "metals", "copper", "recovry"), 12, "is 'recovery' meant?"),

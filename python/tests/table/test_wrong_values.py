@@ -28,18 +28,28 @@ def test_where_no_law_holds_the_key_is_refused_by_name(key, words):
     [
         ("years", 101, "years = 100"),
         ("years", 2.5, "years = 2"),
+        ("years", True, "years = 1"),
         ("per_year", 0, "per_year = 1"),
         ("when", "late", 'when = "start" or "mid" or "end"'),
-        ("mining_rate", [1, -2], "mining_rate = [15e6, 20e6]"),
+        ("mining_rate", [1, -2], "mining_rate = [1, 2]"),
+        ("mill_rate", [0, -1e6], "mill_rate = [0, 1000000.0]"),
+        ("mill_rate", [0, 0], "mill_rate = [15e6, 20e6]"),
         ("pushbacks", [2], "pushbacks = [0.5, 0.75]"),
         ("lead", 2000, "lead = 1000"),
         ("fixed_cost", -1, "fixed_cost = 0"),
+        ("fixed_cost", [1e6], "fixed_cost = 1000000.0"),
         ("discount", -0.02, "discount = 0"),
+        ("discount", 900, "discount = 0.08"),
     ],
 )
 def test_a_wrong_value_of_the_schedule_comes_with_one_that_it_may_have(name, value, better):
     (error,) = wrong_in("schedule", {name: value})
     assert (error.key, error.try_this) == (("schedule", name), better)
+
+
+def test_rates_by_year_stand_in_the_schedule_and_not_in_shells():
+    (error,) = wrong_in("shells", {"mill_rate": [0, 1.6e6]})
+    assert "a list by year stands in [schedule]: mill_rate = [0, 1600000.0]" in error.try_this
 
 
 @pytest.mark.parametrize(

@@ -17,8 +17,8 @@ const keysIn = section => D.home.keys.filter(k => k.section === section);
 const keyOf = (section, name) => keysIn(section).find(k => k.name === name);
 const isTable = v => typeof v === "object" && v !== null && !Array.isArray(v);
 /** Its unit, and before it a large number as it is read. @param {Key} k @param {any} now */
-const unitOf = (k, now) => [now].flat().filter(n => n >= 1e4).map(n => `= ${number(n)} `).join("")
-  + k.unit.replace("{currency}", valueOf(["economics", "currency"]) ?? "$");
+const unitOf = (k, now) => [now].flat().filter(n => n >= 1e4 || n === 0).map(n => `= ${number(n)} `)
+  .join("") + k.unit.replace("{currency}", valueOf(["economics", "currency"]) ?? "$");
 const numbers = text => word(text) && text.split(/;|,\s/.test(text) ? /;|,\s/ : ",").map(value);
 /** @param {any} now as `change` has it @param {any} was what stood there for whoever changes it */
 export const set = (path, now, was) => (typeof now === "function" || !same(was, now))

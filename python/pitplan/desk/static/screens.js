@@ -151,8 +151,7 @@ const slopes = () => [banner(), card("What is asked for", fields("slopes")),
 
 const asks = { certificates: false };
 function build() {
-  const factors = D.check?.factors ?? [];
-  const { old } = D.study.state;
+  const factors = D.check?.factors ?? [], { old } = D.study.state;
   return [banner(), card("Series of pits", fields("shells"),
     factors.length > 0 && tip(`${factors.length} pits, at `, factors.map(f => f / 1000).join(", "),
       " of the price. Rates and the discount are for the discounted cases, and for a plan by years",
@@ -172,6 +171,7 @@ const plan = () => [banner(), card("Terms of the plan", fields("schedule")),
   mining_width: ["least width for machines", {}, value] }),
 runner("schedule", "Find a plan by years", { what: "schedule", ...ends },
   { needs: true, main: true })),
+(p => p && h(p[0] === "good" ? "p" : "p.look.before", p[2]))(D.study.state.plan),
 runsOf("schedule"), framed("out/schedule.html", "the plan by years in three dimensions"),
 pictures(f => /^out\/schedule[^/]*\.png$/.test(f.path))];
 
