@@ -7,7 +7,7 @@ They are written to the file that ``PITPLAN_EVENTS`` in the environment names, a
 
     begin   command (list of words), pid, host
     wait    what: who has the study, before this command waits for its turn
-    step    what, of what is begun
+    step    what, of what is begun; of a search also far, what it has found
     pit     factor (thousandths), state (solving, proved, done, killed), share (0 to 1), of (how
             many pits were asked for)
     task    task (its words), done (how many are), of
@@ -87,10 +87,15 @@ def progress(events: Sequence[Mapping[str, Any]], commands: Sequence[str]) -> di
     done = {each["factor"] for each in pits if each["state"] in ("proved", "done")}
     of = latest.get("task", latest.get("pit", {})).get("of", 0)
     count = latest["task"]["done"] if "task" in latest else len(done)
-    what = str(latest.get("step", {}).get("what", "begins"))
+    what = step_words(latest["step"]) if "step" in latest else "begins"
     if of:
         what = f"{count} of {of}" + ("" if "task" in latest else " pits proved")
     return {"command": commands[max(len(begun) - 1, 0)], "what": what, "at": count, "of": of}
+
+
+def step_words(step: Mapping[str, Any]) -> str:
+    """What is begun, and what a search has found."""
+    return f"{step['what']}: {step['far']}" if "far" in step else str(step["what"])
 
 
 @contextmanager

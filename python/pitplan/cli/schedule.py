@@ -130,7 +130,7 @@ def _shown(wanted: float) -> Iterator[Listener]:
         def listener(found: Found, what: str) -> None:
             if what != before[0]:
                 before[0] = what
-                events.event("step", what=what)
+                events.event("step", what=what, far=_words(found))
                 print(
                     f"{what}: {_words(found)} after {time.time() - began:.0f} s",
                     file=sys.stderr,
@@ -154,7 +154,7 @@ def _shown(wanted: float) -> Iterator[Listener]:
         bar = bars.add_task("schedule", total=1.0, text="")
 
         def drawn(found: Found, what: str) -> None:
-            events.event("step", what=what)
+            events.event("step", what=what, far=_words(found))
             if isinstance(what, Lasting):
                 bars.console.print(what, highlight=False)
                 return
@@ -352,7 +352,6 @@ def _warn_of_rest(schedule: Schedule, years: pd.DataFrame) -> None:
     is_closed = bool((schedule.production.capacities[:, -1] == 0).any())
     more = "a last rate above 0 in [schedule], which is that of all years after it"
     warn(
-        f"{left.blocks:,} {'block of the pit stays' if left.blocks == 1 else 'blocks of the pit stay'}"
-        f" in the ground, {rock.said(left.tonnes)} worth {study.currency} {left.worth:,.0f} undiscounted"
+        left.words(rock, study.currency)
         + (f"\n  try: {more}" if is_closed else "\n  try: more years in [schedule]" * is_full)
     )

@@ -190,6 +190,21 @@ def _say_older_plan(folder: Path) -> None:
             say(f"plan by years: {found.words(study.currency)}")
 
 
+def _without_plan(folder: Path, again: str) -> str:
+    """What is said of a study that has no plan by years; `again` is the command that finds one."""
+    from ..schedule.kept_search import is_lost, lost
+    from ..study.last_run import now_at
+
+    far, kept = now_at(folder, "schedule"), folder / "runs" / "schedule"
+    if far is not None:
+        return f"none yet; its search runs: {far}"
+    if is_lost(kept):
+        error = lost(kept)
+        return f"none: {error.said}\n  try: {error.try_this}"
+    begun = (kept / "schedule.npz").is_file()
+    return f"none{' of this model yet, but a search was begun' if begun else ' yet'}; {again} finds one"
+
+
 def _say_plan(study: Study, plan: StudyFile) -> None:
     """Whether there is a plan by years, what it is worth, and whether it is of study.toml as it
     stands."""
@@ -202,9 +217,7 @@ def _say_plan(study: Study, plan: StudyFile) -> None:
         return
     again = command("schedule", study.named)
     if found is None:
-        is_kept = (study.folder / "runs" / "schedule" / "schedule.npz").is_file()
-        said = "none of this model yet, but a search was begun" if is_kept else "none yet"
-        say(f"plan by years: {said}; {again} finds one")
+        say(f"plan by years: {_without_plan(study.folder, again)}")
         return
     more = f"; {again} finds it anew" if found.is_stale else ""
     say(f"plan by years: {found.words(study.currency)}{more}")

@@ -93,6 +93,17 @@ def _refuse_other(packed: Path, digest: str, again: str) -> None:
         )
 
 
+def is_lost(folder: Path) -> bool:
+    """Whether a bound is kept in a folder without the schedule, which comes before it."""
+    return (folder / "bound").is_dir() and not (folder / "schedule.npz").exists()
+
+
+def lost(folder: Path) -> kept_json.Damaged:
+    """The error of a schedule that is gone from where it was kept."""
+    again = f"rm -r {folder / 'bound'}: the next search begins anew"
+    return kept_json.Damaged(f"{folder / 'schedule.npz'} is gone", try_this=again)
+
+
 class Kept:
     """The folder of what is kept.
 
@@ -193,10 +204,9 @@ class Kept:
     def schedule(self) -> Timetable | None:
         """The best schedule, where there is one of this production that is feasible. Raises Damaged
         where its file is, or isn't there beside a bound, which comes after a schedule."""
-        found, path = self.whole_arrays("schedule"), self.folder / "schedule.npz"
-        if not path.exists() and self.bound():
-            again = f"rm -r {self.folder / 'bound'}: the next search begins anew"
-            raise kept_json.Damaged(f"{path} is gone", try_this=again)
+        found = self.whole_arrays("schedule")
+        if is_lost(self.folder) and self.bound():
+            raise lost(self.folder)
         period, sent = found.get("period"), found.get("sent")
         units, millable = self.production.units, len(self.production.millable.block)
         if period is None or period.shape != (units,) or period.dtype.kind not in "iu":

@@ -14,6 +14,7 @@ from typing import TYPE_CHECKING, Any
 from ..base import kept_json
 from ..base.errors import PlanError
 from ..base.next_command import command
+from ..study.last_run import now_at
 from .search_ends import gap_text
 
 if TYPE_CHECKING:
@@ -124,13 +125,15 @@ def plan_said(
     study: Study, values: Mapping[str, Any], rates: Mapping[str, Any]
 ) -> list[str] | None:
     """The plan by years of a study in words, as a list of studies has it: a mark ("good", "warn" where
-    it is old or its search was stopped, "bad" where its file is damaged), in short, and at length;
-    None where there is none. Without values and rates it is of others."""
+    it is old or its search was stopped, "bad" where its file is damaged, "" while the first search
+    runs), in short, and at length; None where there is none. Without values and rates it is of others.
+    """
     try:
         found = last_plan(study.folder, study.key, values, rates)
     except PlanError as error:
         return ["bad", "its file is damaged", error.said]
     if found is None:
-        return None
+        far = now_at(study.folder, "schedule")
+        return None if far is None else ["", "its search runs", f"its search runs: {far}"]
     is_good = found.is_judged and not found.is_stale
     return ["good" if is_good else "warn", found.short(study.currency), found.words(study.currency)]

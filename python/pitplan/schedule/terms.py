@@ -14,7 +14,7 @@ from ..base.errors import Gathered, PlanError, about
 from ..base.near_words import meant
 from ..base.units_shown import counted, share_text
 from ..study.shells import thousandths
-from ..study.study_file import StudyFile
+from ..study.study_file import NAME, StudyFile
 from ..table.study_keys import with_defaults
 
 MILLION = 10**6  # weights are in millionths
@@ -105,10 +105,11 @@ def terms_of(
     by_name = _yearly_of(values, rates, processes)
     yearly, per_year, years = list(by_name.values()), _per_year_of(values), values.get("years")
     feeds = [feed] if isinstance(feed, (int, float)) else list(feed)
-    if years is None:
-        years = _years_for(by_name, [rock, *feeds], values, per_year)
-    years = int(years)
-    _refuse_periods(years, per_year)
+    with wrong.part("schedule"):
+        needed = _years_for(by_name, [rock, *feeds], values, per_year) if years is None else years
+        _refuse_periods(int(needed), per_year)
+    wrong.tell()
+    years = int(needed)
     discount = values.get("discount")
     return Terms(
         _weights(
@@ -137,7 +138,7 @@ def _wrong_values(values: Mapping[str, Any], rates: Mapping[str, Any]) -> Gather
     values, rates : mapping
         As of `terms_of`.
     """
-    found, per_year, years = Gathered(), _per_year_of(values), values.get("years")
+    found, per_year, years = Gathered(NAME), _per_year_of(values), values.get("years")
     with found.part("schedule", "process_rates"):
         processes = process_rates_of(values, rates)
         with found.part():
@@ -146,9 +147,9 @@ def _wrong_values(values: Mapping[str, Any], rates: Mapping[str, Any]) -> Gather
         if not any(yearly.values()):
             found.add([_without_rates(bool(processes))])
         for name, of_years in yearly.items():
-            with found.part("schedule", name if name in _RATES else "process_rates"):
-                _refuse_amounts(name, of_years, per_year)
-                _refuse_longer(name, of_years, years)
+            with found.part(*_place_of(name, values)):
+                _refuse_amounts(_called(name, values), of_years, per_year)
+                _refuse_longer(_called(name, values), of_years, years)
     with found.part("schedule", "pushbacks"):
         pushbacks_of(values.get("pushbacks") or ())
     with found.part("schedule", "lead"):
@@ -404,7 +405,7 @@ def _years_for(
         told, what = by_name[name], "rock" if name == "mining_rate" else "feed"
         rates = f"{told[0]:g}" if len(told) == 1 else f"[{', '.join(f'{rate:g}' for rate in told)}]"
         raise PlanError(
-            f"{name} = {rates} tonnes a year: the {total_of[name]:,.0f} tonnes of {what} of the pit"
+            f"{_called(name, values)} = {rates} tonnes a year: the {total_of[name]:,.0f} tonnes of {what} of the pit"
             f" take {needs[name]:,} years, and a schedule has at most {_MOST_PERIODS} periods",
             try_this=f"{name} in tonnes a year, as 4e6; or years = {_years_that_go(per_year)} in [schedule]",
             key=_place_of(name, values),
@@ -427,6 +428,14 @@ def _place_of(name: str, values: Mapping[str, Any]) -> tuple[str, ...]:
     return ("economics", "processes", process, "rate")
 
 
+def _called(name: str, values: Mapping[str, Any]) -> str:
+    """A rate as errors call it, after the section in which it stands."""
+    section, process = _place_of(name, values)[0], name.removeprefix(_OF_PROCESS)
+    return f"[{section}] " + (
+        f"process_rates of {process}" if section == "schedule" and name not in _RATES else name
+    )
+
+
 def _years_of(rates: list[float], total: float) -> int:
     """The years that some tonnes take, of which the last rate stays; where that is 0, those in which
     anything is taken of what they never take whole."""
@@ -437,25 +446,23 @@ def _years_of(rates: list[float], total: float) -> int:
     return len(rates) + (min(math.ceil(total / rates[-1]), 10**9) if rates[-1] else 0)
 
 
-def _refuse_longer(name: str, yearly: Sequence[float], years: int | None) -> None:
+def _refuse_longer(called: str, yearly: Sequence[float], years: int | None) -> None:
     """Refuses a rate by year that goes beyond the last year, where study.toml says which that is: else
     there are as many as the pit needs, and what is beyond isn't asked for."""
     if years is not None and len(yearly) > years:
         raise PlanError(
-            f"[schedule] {name} has {counted(len(yearly), 'year')}, and the schedule {years:,}",
+            f"{called} has {counted(len(yearly), 'year')}, and the schedule {years:,}",
             try_this=f"years = {len(yearly)}, or a shorter list: its last rate stays",
-            key=("schedule", name if name in _RATES else "process_rates"),
         )
 
 
-def _refuse_amounts(name: str, yearly: Sequence[float], per_year: int) -> None:
+def _refuse_amounts(called: str, yearly: Sequence[float], per_year: int) -> None:
     """Refuses a rate that is too large to count with."""
     if any(amount > _MOST_CAPACITY for amount in _by_period(yearly, per_year)):
         raise PlanError(
-            f"[schedule] {name} = {max(yearly):g} is more than {_MOST_CAPACITY / GRAIN:,.0f}"
+            f"{called} = {max(yearly):g} is more than {_MOST_CAPACITY / GRAIN:,.0f}"
             " tonnes in a period",
-            try_this=f"{name} in tonnes a year",
-            key=("schedule", name if name in _RATES else "process_rates"),
+            try_this=f"{called.partition('] ')[2]} in tonnes a year",
         )
 
 

@@ -6,7 +6,7 @@ from collections.abc import Mapping, Sequence
 from pathlib import Path
 from typing import Any
 
-from ..base.events import of_last_run
+from ..base.events import of_last_run, step_words
 from .study_lock import is_held
 
 _Event = Mapping[str, Any]
@@ -44,6 +44,14 @@ def last_line(folder: Path) -> str | None:
     )
 
 
+def now_at(folder: Path, command: str) -> str | None:
+    """How far a command of this name is that has the study now; None where none has it."""
+    events = of_last_run(folder)
+    if is_held(folder) is None or not events or events[0].get("command", [])[1:2] != [command]:
+        return None
+    return _how_far(events).removeprefix(", ") or "begins"
+
+
 def _how_far(events: Sequence[_Event]) -> str:
     """How many pits are done, or what was begun last; "" where nothing is told."""
     done = {
@@ -58,4 +66,4 @@ def _how_far(events: Sequence[_Event]) -> str:
     if tasks:
         return f", {tasks.get('done')} of {tasks.get('of')} tasks"
     step = next((event for event in reversed(events) if event["event"] == "step"), None)
-    return f", {step['what']}" if step else ""
+    return f", {step_words(step)}" if step else ""

@@ -24,7 +24,7 @@ from . import toml_lines
 from .shells import factors, series_of
 from .toml_lines import Document
 
-_NAME = "study.toml"
+NAME = "study.toml"
 _RATES = ("mining_rate", "mill_rate", "discount")
 # in place of costs that are wrong, while the other keys are tried
 _NOTHING = {
@@ -110,7 +110,7 @@ def table_found(study_toml: Path, table: Path) -> Iterator[None]:
 
 def path_of(study: Path) -> Path:
     """The study.toml of a study, which is named by its folder or by that file."""
-    return study if study.suffix == ".toml" else study / _NAME
+    return study if study.suffix == ".toml" else study / NAME
 
 
 def read_study_file(study: Path) -> StudyFile:

@@ -20,6 +20,14 @@ _LONGEST, _WIDEST = (
     500,
 )
 _SAY = "numbers with a point as 2.4, words in quotes, every bracket closed"
+# what the parser says of a key that stands above already: the same in words, and what to try
+_TWICE = {
+    "Cannot mutate immutable namespace": (
+        "its braces stand above, and have all of its keys",
+        "this key within those braces",
+    ),
+    "Cannot overwrite a value": ("this stands above already", "take one of the two out"),
+}
 _HEADER = re.compile(r"\s*\[\s*([\w-]+)\s*\]\s*(#.*)?")
 _LISTED = re.compile(r"\s*\[\[\s*([\w-]+)\s*\.\s*([\w-]+)\s*\]\]\s*(#.*)?")  # of one of a list
 _BEGINS = re.compile(r"\s*([\w-]+)\s*[=: ]")  # a statement
@@ -43,6 +51,7 @@ _CHANGES: tuple[tuple[str, _Change], ...] = (
     (r"(\d)\.(?!\d)", r"\1.0"),
     (r"(?<![\d.])0+(?=\d)", ""),
     (r'"([^"]*\\[^"]*)"', r"'\1'"),
+    (r"([{,]\s*)([\w-]+(?: [\w-]+)+)\s*(?==)", r'\1"\2" '),
     (r"^(\s*[\w-]+)\s*:\s*", r"\1 = "),
     (r"^(\s*[\w-]+)\s+(?==?[^=\s])", r"\1 = "),
     (r"\s*$", '"'),
@@ -198,6 +207,9 @@ def _refusal(
     said = reason[: at.start()] if at else reason
     line = lines[place].strip() if lines else ""
     better = _meant(lines[start:], place - start) if is_one else None
+    for begins, (words, what_to_try) in _TWICE.items():
+        if said.startswith(begins):
+            said, better = words, what_to_try
     said = _comma_in(line) or f"{said[:1].lower() + said[1:]}: {_without_comment(line)}"
     return PlanError(
         f"line {place + 1} isn't TOML: {said}",

@@ -7,7 +7,7 @@ from typing import TYPE_CHECKING
 
 import pandas as pd
 
-from ..base.units_shown import lengths, scale_of
+from ..base.units_shown import lengths, printed_scale, scale_of
 from ..schedule.tables import binds_text
 from .pit_surfaces import surfaces
 from .page_views import ViewTable, View, by_kinds, grade_texts, rock_and_metal, scaled
@@ -51,7 +51,8 @@ def schedule(schedule: Schedule, years: pd.DataFrame) -> View:
         for name in names
     }
     own = {name: (schedule.period == int(name) - 1) & study.model.is_rock for name in names}
-    money = scale_of(years["npv"], currency)
+    money, left = scale_of(years["npv"], currency), schedule.left()
+    rock = printed_scale(years["rock_t"], study.model.units.weight)
     columns = [
         ("Blocks", [f"{v:,}" for v in years["blocks"]]),
         (f"Down to ({study.model.units.length})", lengths(years["bottom"])),
@@ -76,6 +77,7 @@ def schedule(schedule: Schedule, years: pd.DataFrame) -> View:
         said=[
             f"{currency} {math.floor(schedule.npv):,}, at most {schedule.gap_text} below the best: no"
             f" schedule brings more than {currency} {math.ceil(schedule.bound):,}",
+            *([left.words(rock, currency)] if left.blocks else []),
             *([schedule.end.words[0].upper() + schedule.end.words[1:]] if schedule.end else []),
             *([_NO_CLASSES.format(there=there)] if terms.is_by_year and study.classes else []),
         ],

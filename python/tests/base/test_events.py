@@ -45,6 +45,11 @@ def test_what_an_earlier_command_has_done_is_not_told_of_the_next():
     assert far == {"command": "pitplan shells hill", "what": "begins", "at": 0, "of": 0}
 
 
+def test_a_search_tells_what_it_has_found():
+    events = [{"event": "begin"}, {"event": "step", "what": "the bound", "far": "3 years filled"}]
+    assert progress(events, COMMANDS)["what"] == "the bound: 3 years filled"
+
+
 def test_tasks_count_before_pits():
     events = [
         *[{"event": "begin"}] * 3,

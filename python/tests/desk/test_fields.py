@@ -200,6 +200,8 @@ def test_the_terms_of_a_plan_by_years_are_written(study):
     see.types(f"{at}.mining_rate", "4e6")
     see.picks(f"{at}.mining_rate.how", "year by year")
     study.has("schedule", "mining_rate", [4e6])
+    see.types(f"{at}.mining_rate", "4e6, 6e6, ")  # whose last comma says nothing
+    study.has("schedule", "mining_rate", [4e6, 6e6])
     see.types(f"{at}.mining_rate", "4e6, 5e6")
     study.has("schedule", "mining_rate", [4e6, 5e6])
     see.picks(f"{at}.mining_rate.how", "the same each year")

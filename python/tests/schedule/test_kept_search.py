@@ -8,7 +8,7 @@ import pytest
 
 from pitplan import PlanError
 from pitplan.pit.program import Pit
-from planned import PITPLAN, built, scheduled
+from planned import PITPLAN, built, run, scheduled
 
 
 @pytest.fixture(scope="module")
@@ -73,6 +73,14 @@ def test_a_damaged_file_is_told_by_its_name(study, kept, name, damage):
     if damage is None or not path.read_bytes():
         subprocess.run(what, check=True)
         assert scheduled(study, (0.05, 5)).gap < 5
+
+
+def test_status_tells_a_schedule_that_is_gone_as_the_search_does(study, kept):
+    (kept / "schedule.npz").unlink()
+    with pytest.raises(PlanError) as told:
+        scheduled(study, (0.05, 5))
+    said = " ".join(run("status", study).split())
+    assert f"plan by years: none: {told.value.said} try: {told.value.try_this}" in said
 
 
 def test_what_a_killed_search_leaves_is_swept_away(study, kept, monkeypatch):

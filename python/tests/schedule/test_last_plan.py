@@ -7,9 +7,11 @@ from decimal import Decimal
 
 import pytest
 
+from pitplan.base import events
 from pitplan.base.kept_json import Damaged
 from pitplan.desk.work import overview
 from pitplan.schedule.last_plan import basis_of, last_plan
+from pitplan.study import study_lock
 from planned import PITPLAN, built, run
 
 MODEL, VALUES, RATES = "0" * 64, {"years": 6, "mill_rate": [0, 4e5]}, {"discount": 0.08}
@@ -78,6 +80,25 @@ def test_without_a_file_there_is_none_and_a_damaged_one_is_told(tmp_path):
     written(tmp_path, npv="much")
     with pytest.raises(Damaged, match='schedule.json is damaged: npv is "much"'):
         last_plan(tmp_path, MODEL, VALUES, RATES)
+
+
+def test_a_folder_in_its_place_is_told(tmp_path):
+    place = tmp_path / "out" / "schedule.json"
+    place.mkdir(parents=True)
+    with pytest.raises(Damaged, match="schedule.json is a folder, and has to be a file") as told:
+        last_plan(tmp_path, MODEL, VALUES, RATES)
+    assert told.value.try_this == f"rm -r {place}"
+
+
+def test_how_far_the_first_search_is_while_it_runs(tmp_path, monkeypatch):
+    folder, words = built(tmp_path / "s"), ["pitplan", "schedule", "s"]
+    monkeypatch.setattr(sys, "argv", words)
+    far = "its search runs: the bound: a schedule of 3 periods"
+    with study_lock.turn(folder, words), events.of_study(folder):
+        events.event("step", what="the bound", far="a schedule of 3 periods")
+        assert overview(folder)["plan"] == ["", "its search runs", far]
+        assert f"plan by years: none yet; {far}" in said(folder)
+    assert overview(folder)["plan"] is None
 
 
 def test_status_and_the_desk_say_whether_there_is_a_plan(tmp_path):

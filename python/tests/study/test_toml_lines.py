@@ -25,6 +25,11 @@ NO_TOML = [
     ('table = "t.csv"', 'table = "C:\\mine\\t.csv"', "table = 'C:\\mine\\t.csv'"),
     ("rotation = 0", "regularise = False", "regularise = false"),
     ("regions = { WEST = 44 }", "regions = { WEST = 44", "regions = { WEST = 44 }"),
+    (
+        "regions = { WEST = 44 }",
+        "regions = { WEST = 44, far east = 45 }",
+        'regions = { WEST = 44, "far east" = 45 }',
+    ),
 ]
 
 
@@ -37,6 +42,30 @@ def test_a_line_that_is_no_toml_is_told_with_what_is_meant(tmp_path, was, now, w
     assert first.what.startswith(f"line {at} isn't TOML: ")
     assert first.try_this == wanted
     assert [error.what for error in found.errors[1:]] == []
+
+
+@pytest.mark.parametrize(
+    "now, said, what_to_try",
+    [
+        (
+            "regions = { WEST = 44 }\nregions.EAST = 45\n",
+            "its braces stand above, and have all of its keys",
+            "this key within those braces",
+        ),
+        (
+            "regions.WEST = 44\nregions.WEST = 45\n",
+            "this stands above already",
+            "take one of the two out",
+        ),
+    ],
+)
+def test_a_key_that_stands_above_already_is_told(tmp_path, now, said, what_to_try):
+    text = STUDY.replace("regions = { WEST = 44 }", now.rstrip(), 1)
+    first = check(written_study(tmp_path / "s", table(9, 8, 5, 5), text)).errors[0]
+    again = now.splitlines()[1]
+    at = text.splitlines().index(again) + 1
+    assert first.what == f"line {at} isn't TOML: {said}: {again}"
+    assert first.try_this == what_to_try
 
 
 def test_a_statement_of_several_lines_is_mended_in_the_line_that_is_wrong(tmp_path):

@@ -54,6 +54,23 @@ def test_each_word_is_that_of_the_period(found):
         assert view.start == len(view.labels) == len(years)
 
 
+def test_what_stays_in_the_ground_is_said(found):
+    """The blocks of the last year, as of a plan that doesn't dig them."""
+    years, made = Tables(found).years(), copy.copy(found)
+    assert not any("in the ground" in each for each in schedule_view.schedule(found, years).said)
+    last = found.period == found.period.max()
+    object.__setattr__(made, "period", np.where(last, -1, found.period))
+    view = schedule_view.schedule(made, Tables(made).years())
+    study = found.shells.study
+    stays = last & study.model.is_rock
+    tonnes = study.model.blocks.tonnes.to_numpy()[stays].sum()
+    assert view.said[1].startswith(f"{stays.sum():,} blocks of the pit stay in the ground, ")
+    assert (
+        f" {tonnes / 1e6:,.2f} Mt worth " in view.said[1]
+        or f"{tonnes / 1e3:,.2f} kt" in view.said[1]
+    )
+
+
 def test_no_amount_is_said_that_is_more_than_is_known(found):
     """The worth is rounded down, and the bound up."""
     (said, *_) = schedule_view.schedule(found, Tables(found).years()).said

@@ -19,7 +19,8 @@ const isTable = v => typeof v === "object" && v !== null && !Array.isArray(v);
 /** Its unit, and before it a large number as it is read. @param {Key} k @param {any} now */
 const unitOf = (k, now) => [now].flat().filter(n => n >= 1e4 || n === 0).map(n => `= ${number(n)} `)
   .join("") + k.unit.replace("{currency}", valueOf(["economics", "currency"]) ?? "$");
-const numbers = text => word(text) && text.split(/;|,\s/.test(text) ? /;|,\s/ : ",").map(value);
+const inParts = text => text.split(/;|,\s/.test(text) ? /;|,\s/ : ",");
+const numbers = text => word(text) && inParts(text.replace(/[;,]\s*$/, "")).map(value);
 /** @param {any} now as `change` has it @param {any} was what stood there for whoever changes it */
 export const set = (path, now, was) => (typeof now === "function" || !same(was, now))
   && change({ path, value: now, was });
@@ -142,7 +143,6 @@ function bearings(path, key, items) {
       at => at(path).filter((_, n) => n !== i)), `take bearing ${now[i][0]} out`))),
   small("+", () => set(path, at => more(at(path))), "a bearing more")];
 }
-
 function regions(path, key) {
   const { region, regions: there = [] } = D.look ?? {};
   const both = (by, now) => change({ path: ["slopes", "by"], value: by }, { path, value: now });

@@ -171,7 +171,7 @@ const plan = () => [banner(), card("Terms of the plan", fields("schedule")),
   mining_width: ["least width for machines", {}, value] }),
 runner("schedule", "Find a plan by years", { what: "schedule", ...ends },
   { needs: true, main: true })),
-(p => p && h(p[0] === "good" ? "p" : "p.look.before", p[2]))(D.study.state.plan),
+(p => p && h(["good", ""].includes(p[0]) ? "p" : "p.look.before", p[2]))(D.study.state.plan),
 runsOf("schedule"), framed("out/schedule.html", "the plan by years in three dimensions"),
 pictures(f => /^out\/schedule[^/]*\.png$/.test(f.path))];
 
