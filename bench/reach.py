@@ -20,7 +20,6 @@ from __future__ import annotations
 import json
 import math
 import os
-import subprocess
 import sys
 import tempfile
 import time
@@ -29,12 +28,13 @@ from fractions import Fraction
 from pathlib import Path
 from typing import NamedTuple
 
-from debian_python import PYTHON, run_by_debian
+from debian_python import run_by_debian
 
 run_by_debian()  # before packages are imported
 
 import numpy as np
 import pandas as pd
+from child_rows import rows_by_child
 import schedules
 
 HERE = Path(__file__).resolve().parent
@@ -215,7 +215,7 @@ def together(made, cluster, spans, program):
             lighter = replace(made, terms=replace(made.terms, weights=tuple(map(int, left))))
             nodes = UnitTexts(lighter)
             pit = nodes.closed(program, Path(work), multipliers, None)
-            found = min(found, nodes.total(pit.said, multipliers) + paid)
+            found = min(found, nodes.total(pit.bound, multipliers) + paid)
             print(f"{found / MILLION**2:.3f} million, relaxed {worth:.3f}", file=sys.stderr)
             parted = split(cluster, lighter, pit.dug, multipliers)
             if found / MILLION**2 - worth < NEAR * abs(worth) or parted.size == cluster.size:
@@ -289,21 +289,7 @@ def one(name):
 
 
 def main():
-    names = sys.argv[1:] or ["10k", "day", "60k veins panel 2"]
-    if names[0] == "--child":
-        one(names[1])
-        return
-    found = (
-        {row["case"]: row for row in pd.read_csv(ROWS).to_dict("records")} if ROWS.exists() else {}
-    )
-    for name in names:
-        ran = subprocess.run(
-            [PYTHON, __file__, "--child", name], stdout=subprocess.PIPE, text=True, check=True
-        )
-        found[name] = json.loads(ran.stdout.splitlines()[-1])
-        print(found[name], flush=True)
-        order = [name for name in schedules.CASES if name in found]
-        pd.DataFrame([found[name] for name in order]).to_csv(ROWS, index=False)
+    rows_by_child(__file__, ROWS, schedules.CASES, one, ["10k", "day", "60k veins panel 2"])
 
 
 if __name__ == "__main__":

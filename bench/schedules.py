@@ -11,17 +11,17 @@ import json
 import os
 import resource
 import shutil
-import subprocess
 import sys
 import time
 from pathlib import Path
 
-from debian_python import PYTHON, run_by_debian
+from debian_python import run_by_debian
 
 run_by_debian()  # before packages are imported
 
 import numpy as np
 import pandas as pd
+from child_rows import rows_by_child
 
 import scale
 
@@ -171,20 +171,7 @@ def memory():
 
 
 def main():
-    names = sys.argv[1:] or list(CASES)
-    if names[0] == "--child":
-        one(names[1])
-        return
-    found = (
-        {row["case"]: row for row in pd.read_csv(ROWS).to_dict("records")} if ROWS.exists() else {}
-    )
-    for name in names:
-        ran = subprocess.run(
-            [PYTHON, __file__, "--child", name], stdout=subprocess.PIPE, text=True, check=True
-        )
-        found[name] = json.loads(ran.stdout.splitlines()[-1])
-        print(found[name], flush=True)
-        pd.DataFrame([found[name] for name in CASES if name in found]).to_csv(ROWS, index=False)
+    rows_by_child(__file__, ROWS, CASES, one, list(CASES))
 
 
 if __name__ == "__main__":

@@ -1,7 +1,7 @@
 """Proves crates side by side, each in a folder of its own, and keeps the work from which later checks go on.
 
 The kit lets one `rt` at a time into a crate and into all crates below it, so that two crates with a common library
-would wait for each other. Each crate is therefore proved in a folder of its own, beside copies of what it stands on,
+would wait for each other. Each crate is therefore proved in a folder of its own, beside copies of what it depends on,
 and its `out` is moved back once it is proved. These folders lie in `out/room`, on the file system of the tree, where a
 copy shares its bytes and a move is a change of name.
 """

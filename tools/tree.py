@@ -25,7 +25,7 @@ PARTS = ("src", "specs", "proofs", "data")
 
 
 class Crate:
-    """A line of crates.txt: the crate's name, its folder, and the crates that it stands on."""
+    """A line of crates.txt: the crate's name, its folder, and the crates that it depends on."""
 
     def __init__(self, line):
         head, _, uses = line.partition(":")

@@ -113,7 +113,12 @@ def unknown_names(top):
         "CONTRIBUTING.md: there is no %s" % quoted
         for page in recipes
         for quoted in QUOTED.findall(without_code(page.read_text()))
-        if ("::" in quoted or quoted.startswith("crates/"))
+        if (
+            "::" in quoted
+            or quoted.startswith("crates/")
+            or "_" in quoted
+            and NAME.fullmatch(quoted)
+        )
         and not is_known(top, quoted, texts, words)
     ]
     for page in (top / name for name in CITING if (top / name).exists()):

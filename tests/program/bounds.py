@@ -7,13 +7,12 @@ capacities at their multipliers, is the bound that must come; and what each feas
 schedules.py is held against the bound too. In half of the mines blocks wait for others. All this is tried again within the ultimate
 pit: its blocks alone bound every schedule of the whole mine, and a certificate of it that `pit check` refuses gives that answer.
 """
-import os
 import random
 import tempfile
-from concurrent.futures import ThreadPoolExecutor
 from itertools import product
 from pathlib import Path
 
+from program import made_up_plans
 from program.refused_calls import run
 from program.schedules import (
     BLOCKS,
@@ -242,12 +241,5 @@ def too_many_nodes(program):
 
 def try_all(program):
     """Tries every mine, and gives how many were bounded as they must be and how many not."""
-    seeds = range(200)
-    with ThreadPoolExecutor(len(os.sched_getaffinity(0))) as pool:
-        results = list(pool.map(lambda seed: wrong(program, seed), seeds))
-    results.append(too_many_nodes(program))
-    for place, line in enumerate(results):
-        if line:
-            print("bound %d: %s" % (place, line[:300]))
-    failed = sum(map(bool, results))
-    return len(results) - failed, failed
+    results = made_up_plans.each(wrong, 200, program)
+    return made_up_plans.counted("bound", [*results, too_many_nodes(program)])

@@ -4,13 +4,12 @@ it and counts in whole numbers by docs/FORMATS.md alone.
 Mines have five blocks and three periods, two resources and capacities that bind; in half of them blocks wait for others. Schedules
 are made up too, most of them nearly in order, so that feasible ones and each kind of infeasible one come.
 """
-import os
 import random
 import tempfile
 from collections import namedtuple
-from concurrent.futures import ThreadPoolExecutor
 from pathlib import Path
 
+from program import made_up_plans
 from program.refused_calls import run
 
 BLOCKS, PERIODS, RESOURCES = 5, 3, 2
@@ -161,20 +160,9 @@ def wrong(program, seed):
         written(plan, Path(folder))
         status, output, errors = run(program, WORDS, folder)
     want = judged(plan, [1000 * worth for worth in plan.worths])
-    return (
-        ""
-        if (status, output.decode()) == want and not errors
-        else "%s where %s must come: %s" % ((status, output), want, errors)
-    )
+    return made_up_plans.difference((status, output.decode()), want, errors)
 
 
 def try_all(program):
     """Tries every plan, and gives how many were judged as they must be and how many not."""
-    seeds = range(200)
-    with ThreadPoolExecutor(len(os.sched_getaffinity(0))) as pool:
-        results = list(pool.map(lambda seed: wrong(program, seed), seeds))
-    for seed, line in zip(seeds, results):
-        if line:
-            print("schedule %d: %s" % (seed, line[:300]))
-    failed = sum(map(bool, results))
-    return len(results) - failed, failed
+    return made_up_plans.counted("schedule", made_up_plans.each(wrong, 200, program))

@@ -4,13 +4,12 @@ this reader, which shares no line with it and counts in whole numbers by docs/FO
 Mines are those of schedules.py with prices of one way to three, the one by `ways` or as a mill. Of some resources each way uses a
 column of its own. About half of the lines name a way, and some of these name waste.
 """
-import os
 import random
 import tempfile
 from collections import namedtuple
-from concurrent.futures import ThreadPoolExecutor
 from pathlib import Path
 
+from program import made_up_plans
 from program.refused_calls import run
 from program.schedules import BLOCKS, RESOURCES, decimal, judged, made_up, written
 
@@ -119,20 +118,9 @@ def wrong(program, seed):
         most_of(ways, b) if ways.named.get(b) is None else ways.named[b] for b in range(BLOCKS)
     ]
     want = judged(*chosen(plan, ways, way_of))
-    return (
-        ""
-        if (status, output.decode()) == want and not errors
-        else "%s where %s must come: %s" % ((status, output), want, errors)
-    )
+    return made_up_plans.difference((status, output.decode()), want, errors)
 
 
 def try_all(program):
     """Tries every plan, and gives how many were judged as they must be and how many not."""
-    seeds = range(200)
-    with ThreadPoolExecutor(len(os.sched_getaffinity(0))) as pool:
-        results = list(pool.map(lambda seed: wrong(program, seed), seeds))
-    for seed, line in zip(seeds, results):
-        if line:
-            print("treated %d: %s" % (seed, line[:300]))
-    failed = sum(map(bool, results))
-    return len(results) - failed, failed
+    return made_up_plans.counted("treated", made_up_plans.each(wrong, 200, program))

@@ -8,13 +8,12 @@ most in its period, and all capacities at their multipliers, is the bound that m
 tried too: no feasible one may be worth more. The schedule of treated.py, whose lines name ways, is held against the bound. All this is
 tried again within the ultimate pit at what each block is worth at most.
 """
-import os
 import random
 import tempfile
-from concurrent.futures import ThreadPoolExecutor
 from itertools import product
 from pathlib import Path
 
+from program import made_up_plans
 from program.bounds import beside, multipliers_of, part_of
 from program.refused_calls import run
 from program.schedules import BLOCKS, PERIODS, RESOURCES, decimal, made_up, written
@@ -141,11 +140,4 @@ def wrong(program, seed):
 
 def try_all(program):
     """Tries every mine, and gives how many were bounded as they must be and how many not."""
-    seeds = range(120)
-    with ThreadPoolExecutor(len(os.sched_getaffinity(0))) as pool:
-        results = list(pool.map(lambda seed: wrong(program, seed), seeds))
-    for seed, line in zip(seeds, results):
-        if line:
-            print("treated bound %d: %s" % (seed, line[:300]))
-    failed = sum(map(bool, results))
-    return len(results) - failed, failed
+    return made_up_plans.counted("treated bound", made_up_plans.each(wrong, 120, program))

@@ -420,7 +420,9 @@ def wrong_pages_are_told(tree):
         "`next`, `IsNext` in `Small.antt`; `nothing_so`, `some_number` in `Small.antt`, `Gone.antt`\n"
         "`small::next`, `engines::next`\n"
     )
-    (tree / "CONTRIBUTING.md").write_text("`crates/small/src`, `crates/left`, `run-example`\n")
+    (tree / "CONTRIBUTING.md").write_text(
+        "`crates/small/src`, `crates/left`, `run-example`, `left_options`\n"
+    )
     told = pages.broken_links(tree) + pages.unknown_names(tree) + pages.misplaced_crates(tree)
     wanted = [
         "no file gone.md",
@@ -429,6 +431,7 @@ def wrong_pages_are_told(tree):
         "there is no Gone.antt",
         "there is no engines::next",
         "there is no crates/left",
+        "there is no left_options",
         "next isn't defined",
         "nothing_so isn't defined",
         "some_number isn't defined",

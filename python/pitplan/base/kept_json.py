@@ -79,6 +79,15 @@ def shown(value: Any) -> str:
     return text if len(text) <= 80 else text[:80] + ".."
 
 
+def words_in(value: Any) -> list[str]:
+    """The words among the values of what was read from JSON: columns and formulas are there."""
+    if isinstance(value, Mapping):
+        return [word for of in value.values() for word in words_in(of)]
+    if isinstance(value, (list, tuple)):
+        return [word for of in value for word in words_in(of)]
+    return [value] if isinstance(value, str) else []
+
+
 def is_word(value: Any) -> bool:
     return isinstance(value, str)
 

@@ -12,7 +12,7 @@ from ..base.units_shown import share_text
 from ..study.shells import Shells, series_of, thousandths
 from ..study.study import Study
 from ..study.workers import workers_for
-from .console import described, err, open_study, say, shells_of, show_schedule
+from .console import described, err, open_study, say, shells_of, show_schedule, warn
 from .progress import pits_shown
 
 if TYPE_CHECKING:
@@ -20,6 +20,7 @@ if TYPE_CHECKING:
     from ..plans.design import Design
     from ..plans.phases import Phases
     from ..schedule.plan import Schedule
+    from ..study.study_file import StudyFile
 
 
 def shares_of(text: str) -> list[int]:
@@ -110,6 +111,23 @@ def last_schedule(folder: Path) -> Schedule:
             try_this=command("schedule", folder),
         )
     show_schedule(shells.study, found.digest)
+    return found
+
+
+def schedule_if_found(plan: StudyFile, shells: Shells) -> Schedule | None:
+    """The same; None where there is none, which is told where there is another one."""
+    if not (shells.study.folder / "runs" / "schedule").is_dir():
+        return None
+    from ..schedule.plan import Schedule  # needs Numba
+
+    found = Schedule.last(shells, plan.values["schedule"], plan.rates)
+    if found is None:
+        warn(
+            "the plan by years isn't in it: it was found for other terms, prices or pits than"
+            f" those of study.toml now\n  try: {command('schedule', shells.study.named)}, and report again"
+        )
+    else:
+        show_schedule(shells.study, found.digest)
     return found
 
 

@@ -60,8 +60,8 @@ app = typer.Typer(
         " it shows is proved by `pit`."
     ),
     epilog=(
-        "Exit status: 0 done; 1 no, where pit check refuses or a check of pitplan fails; 2 wrong"
-        " words; 3 a file is wrong; 4 the machine (memory, disk); 130 stopped."
+        "Exit status: 0 done; 1 no, where pit check refuses or a check of pitplan fails; 2 a wrong"
+        " use of the command line; 3 a file is wrong; 4 the machine (memory, disk); 130 stopped."
     ),
 )
 
@@ -106,7 +106,7 @@ def and_study(metavar: str, what: str) -> Any:
     """The argument of a command that takes a study, which may be left out, and one more word;
     `study_and` parts them."""
     text = f"The folder of the study (default: this one), and {what}"
-    return typer.Argument(..., metavar=f"[STUDY] {metavar}", help=text)
+    return typer.Argument(..., metavar=f"[FOLDER] {metavar}", help=text)
 
 
 def study_and(name: str, pair: Sequence[str]) -> tuple[Path, str]:

@@ -90,8 +90,8 @@ def _remedy(error: OSError) -> str:
 
 
 def main() -> None:
-    """Runs a command. Exit status: 0 done, 1 no, 2 wrong words, 3 a file is wrong, 4 the machine,
-    130 stopped."""
+    """Runs a command. Exit status: 0 done, 1 no, 2 a wrong use of the command line, 3 a file is
+    wrong, 4 the machine, 130 stopped."""
     try:
         _run()
     except SystemExit as ended:

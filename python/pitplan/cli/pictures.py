@@ -19,8 +19,8 @@ if TYPE_CHECKING:
     from .chosen_pits import DesignOptions
 
 _COLOURS = (
-    "What colours the blocks: shell, value (worth at factor 1), to (which process gets"
-    " it, where there are several), or a column of the table."
+    'What colours the blocks: "shell", "value" (worth at factor 1), "to" (where a block goes: the'
+    " mill, a process by its name, or waste), or a column of the table."
 )
 
 

@@ -20,7 +20,7 @@ def pits_shown(factors: list[int], workers: int) -> Iterator[FactorProgress]:
     """Shows how far the runs are: on a terminal a bar with the time left and a line for each that
     runs, else a line for each that is done."""
     if not err.is_terminal:
-        yield _heard(_lines(len(factors)), len(factors))
+        yield _as_events(_lines(len(factors)), len(factors))
         return
     from rich.progress import BarColumn, Progress, TextColumn, TimeRemainingColumn
 
@@ -61,10 +61,10 @@ def pits_shown(factors: list[int], workers: int) -> Iterator[FactorProgress]:
                 now = what if share < 1 else "checking"
                 bars.update(lanes[factor], completed=share, text=now)  # type: ignore[arg-type]
 
-        yield _heard(listener, len(factors))
+        yield _as_events(listener, len(factors))
 
 
-def _heard(listener: FactorProgress, of: int) -> FactorProgress:
+def _as_events(listener: FactorProgress, of: int) -> FactorProgress:
     """A listener whose pits are events, too: each hundredth of its way."""
     last: dict[int, tuple[str, int]] = {}
 

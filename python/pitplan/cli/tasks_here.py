@@ -12,7 +12,7 @@ from .console import err, warn, warn_of_room
 if TYPE_CHECKING:
     from ..plans.task_line import Task
     from ..study.study import Study
-    from ..tasks.local import Heard
+    from ..tasks.local import TaskListener
 
 
 def tell_slurm(study: Study, tasks: list[Task]) -> None:
@@ -48,7 +48,7 @@ def do_all(study: Study, tasks: list[Task], workers: Optional[int]) -> None:
     count = processes_for(study, workers)
     warn_of_room(workers, count)
     if not err.is_terminal:
-        deaths = run_local(study, left, count, _heard(_lines()))
+        deaths = run_local(study, left, count, _as_events(_lines()))
     else:
         from rich.progress import (
             BarColumn,
@@ -68,13 +68,16 @@ def do_all(study: Study, tasks: list[Task], workers: Optional[int]) -> None:
         ) as bars:
             bar = bars.add_task(f"tasks, {count} at a time", total=len(left))
             deaths = run_local(
-                study, left, count, _heard(lambda task, done, of: bars.update(bar, completed=done))
+                study,
+                left,
+                count,
+                _as_events(lambda task, done, of: bars.update(bar, completed=done)),
             )
     if deaths:
         warn(f"a process was ended {deaths} times, and started again: was memory short?")
 
 
-def _heard(listener: Heard) -> Heard:
+def _as_events(listener: TaskListener) -> TaskListener:
     """A listener whose tasks are events, too."""
 
     def progress(task: Task, done: int, of: int) -> None:
@@ -84,7 +87,7 @@ def _heard(listener: Heard) -> Heard:
     return progress
 
 
-def _lines() -> Heard:
+def _lines() -> TaskListener:
     """A line for each task that is done, for logs."""
     began = time.time()
     return lambda task, done, of: print(

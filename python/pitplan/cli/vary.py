@@ -41,7 +41,7 @@ if TYPE_CHECKING:
 _APART = {True: "larger", False: "within the gaps"}
 _WORDS: Any = typer.Argument(
     None,
-    metavar="[STUDY] [CHANGES]...",
+    metavar="[FOLDER] [CHANGES]...",
     help=(
         "The folder of the study (default: this one), and changes, as price=-20..20"
         " price:gold=-10..10 recovery=-5..5 recovery:gold=-5..5 mining=-10..10"

@@ -155,7 +155,7 @@ class _Treatment:
         Likewise.
     mining_recovery, feed : float
         The share of the ore that gets there, and tonnes of feed for each tonne of ore in place.
-    said : str
+    label : str
         What an error calls it: "" of the mill.
     """
 
@@ -166,17 +166,17 @@ class _Treatment:
     payable: dict[str, float]
     mining_recovery: float
     feed: float
-    said: str = ""
+    label: str = ""
 
     def key(self, name: str) -> KeyPath:
         """Where one of its keys stands in study.toml, as the mill calls it."""
-        if not self.said:
+        if not self.label:
             return ("economics", name)
         return ("economics", PROCESSES, self.name, _OF_PROCESS[name])
 
     def what(self, name: str) -> str:
         """How an error begins that concerns such a key."""
-        return f"[economics] {self.said and f'{self.said} '}{self.key(name)[-1]}"
+        return f"[economics] {self.label and f'{self.label} '}{self.key(name)[-1]}"
 
 
 @dataclass(frozen=True)
@@ -474,7 +474,7 @@ class Economics:
             if name in own:
                 rocks = way.rocks
                 at[name] = ("economics", PROCESSES, way.name, "recovery", name)
-                what = f"[economics] {way.said} recovery of {name}"
+                what = f"[economics] {way.label} recovery of {name}"
             if at[name] not in known:
                 known[at[name]] = np.zeros(len(model))
                 with wrong.part(*at[name]):

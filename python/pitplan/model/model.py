@@ -259,7 +259,7 @@ def read_table(path: str | Path, **keys: Any) -> Model:
 
 
 def read_with(path: Path, keys: TableKeys) -> Model:
-    """Reads a table of blocks, as `read_table` does."""
+    """`read_table`, with its keys as one value."""
     with about("model", "table"):
         table, dialect = path.name, keys.dialect(path)
         header = names_of(head_of(path, dialect.encoding, 1)[0], dialect.separator)

@@ -3,10 +3,12 @@ words, and no code."""
 from __future__ import annotations
 
 import json
+import re
 import tokenize
+import unicodedata
 import zipfile
 import zlib
-from collections.abc import Iterator, Sequence
+from collections.abc import Iterator, Mapping, Sequence
 from contextlib import contextmanager
 from dataclasses import asdict
 from pathlib import Path
@@ -18,10 +20,13 @@ import pandas as pd
 from ..base.amounts import Priced, Way, rounding_of
 from ..base.arrays import Array, Bools, Floats, Ints
 from ..base.errors import PlanError
+from ..base.kept_json import words_in
 from ..base.units import Units
 from ..base.next_command import command
+from .classes import CLASS
 from .grid import Grid
 from .model import Model
+from .weights import ORE
 
 # What numpy and zipfile raise of a file that is damaged.
 DAMAGED = (
@@ -36,7 +41,16 @@ DAMAGED = (
     zlib.error,
     tokenize.TokenError,
 )
-COLUMN, WORDS, _METAL, _GRADE = "column ", "words ", "metal ", "grade "
+_COLUMN, _WORDS, _METAL, _GRADE = "column ", "words ", "metal ", "grade "
+# columns that pricing and `.blocks` ask for, beside those that [economics] names
+_ASKED = (
+    "ix",
+    "iy",
+    "iz",
+    "row",
+    "tonnes",
+    "rock",
+)
 
 
 def _words_as_bytes(words: Any) -> Array:
@@ -48,7 +62,7 @@ def _words_as_bytes(words: Any) -> Array:
     )
 
 
-def bytes_as_words(data: Array, count: int) -> Array:
+def _bytes_as_words(data: Array, count: int) -> Array:
     return np.array(bytes(data).decode().split("\n") if count else [], dtype=object)
 
 
@@ -97,9 +111,9 @@ def save(path: Path, model: Model, priced: Priced, region: Ints) -> None:
     for name in model.blocks.columns:
         values = model.blocks[name]
         arrays |= (
-            {WORDS + name: _words_as_bytes(values)}
+            {_WORDS + name: _words_as_bytes(values)}
             if values.dtype.kind not in "iufb"
-            else {COLUMN + name: values.to_numpy()}
+            else {_COLUMN + name: values.to_numpy()}
         )
     g = model.grid
     facts = {
@@ -142,7 +156,7 @@ def _open_kept(path: Path) -> Iterator[Any]:
         ) from None
 
 
-def facts_of(file: Any) -> dict[str, Any]:
+def _facts_of(file: Any) -> dict[str, Any]:
     facts: dict[str, Any] = json.loads(bytes(file["told"]).decode())
     return facts
 
@@ -155,17 +169,17 @@ def _three(values: list[Any]) -> tuple[Any, Any, Any]:
 def load_model(path: Path) -> Model:
     """The model that `save` wrote."""
     with _open_kept(path) as file:
-        facts = facts_of(file)
+        facts = _facts_of(file)
         columns = {
-            name: file[COLUMN + name]
-            if COLUMN + name in file.files
-            else bytes_as_words(file[WORDS + name], facts["blocks"])
+            name: file[_COLUMN + name]
+            if _COLUMN + name in file.files
+            else _bytes_as_words(file[_WORDS + name], facts["blocks"])
             for name in facts["order"]
         }
-        return model_from(pd.DataFrame(columns, copy=False), file, facts)
+        return _model_from(pd.DataFrame(columns, copy=False), file, facts)
 
 
-def model_from(blocks: pd.DataFrame, file: Any, facts: dict[str, Any]) -> Model:
+def _model_from(blocks: pd.DataFrame, file: Any, facts: dict[str, Any]) -> Model:
     """The model of a file that `save` wrote, of some of its columns."""
     return Model(
         blocks,
@@ -186,6 +200,33 @@ def model_from(blocks: pd.DataFrame, file: Any, facts: dict[str, Any]) -> Model:
     )
 
 
+def load_lean(path: Path, economics: Mapping[str, Any]) -> Model:
+    """The model that `save` wrote, without the columns that pricing by these economics doesn't ask
+    for: the planner's names of 10,000,000 blocks take a gigabyte."""
+    # as Python reads the plain words of a formula
+    said = unicodedata.normalize("NFKC", "\n".join(words_in(economics)))
+    with _open_kept(path) as file:
+        facts = _facts_of(file)
+        columns: dict[str, Any] = {}
+        asked = {*_ASKED, facts["columns"].get(ORE)}
+        asked |= {facts["columns"].get(CLASS)} if economics.get("waste_classes") else set()
+        for name in facts["order"]:
+            if (
+                name not in asked
+                and not re.search(
+                    rf"(?<!\w){re.escape(unicodedata.normalize('NFKC', name))}(?!\w)", said
+                )
+                and not set("'\"\\") & set(name)
+            ):
+                continue  # a name with quotes may stand there in another spelling
+            if _COLUMN + name in file.files:
+                columns[name] = file[_COLUMN + name]
+            else:  # each word once, however many blocks have it
+                codes, words = pd.factorize(_bytes_as_words(file[_WORDS + name], facts["blocks"]))
+                columns[name] = words[codes]
+        return _model_from(pd.DataFrame(columns), file, facts)
+
+
 def _fenced_of(file: Any, facts: dict[str, Any]) -> tuple[Sequence[str], Bools] | None:
     """The formulas of `forbid` and the blocks that they keep, of a model with sub-blocks."""
     return (facts["fenced"], file["forbidden"]) if facts.get("fenced") is not None else None
@@ -199,7 +240,7 @@ def _row_tonnes_of(file: Any) -> Floats | None:
 def load_priced(path: Path) -> Priced:
     """What the blocks bring and cost; the planner's own columns aren't read."""
     with _open_kept(path) as file:
-        facts = facts_of(file)
+        facts = _facts_of(file)
         grade = {name[len(_GRADE) :]: file[name] for name in file.files if name.startswith(_GRADE)}
         return Priced(
             _ways_in(file, facts),

@@ -18,7 +18,7 @@ from ..base.errors import Killed, MachineError, PlanError
 from ..base.files import ROOM
 from ..base.interrupts import raise_if_asked
 
-Heard = Callable[[str], None]  # a line of `--progress`
+LineListener = Callable[[str], None]  # a line of `--progress`
 Word = Union[str, int, Path]
 TOP = Path(__file__).resolve().parents[3]
 # where this repository's build puts it
@@ -92,7 +92,7 @@ class Process:
         self,
         words: Sequence[Word],
         out: Path | None = None,
-        heard: Heard | None = None,
+        on_line: LineListener | None = None,
         fed: Iterable[bytes] | None = None,
         seconds: float | None = None,
     ) -> str:
@@ -104,7 +104,7 @@ class Process:
             Of its command line.
         out : Path, optional
             The file that its standard output is written to.
-        heard : function, optional
+        on_line : function, optional
             Called with each line that says how far it is.
         fed : iterable of bytes, optional
             What it gets on its standard input; all of it is gone through, also where `pit` reads no
@@ -133,7 +133,7 @@ class Process:
                 target.fileno() if out else subprocess.PIPE,
                 subprocess.PIPE if fed is not None else subprocess.DEVNULL,
             )
-            ear = threading.Thread(target=_listen, args=(run, lines, heard), daemon=True)
+            ear = threading.Thread(target=_listen, args=(run, lines, on_line), daemon=True)
             ear.start()
             try:
                 with _ending(run, seconds) as late:
@@ -263,15 +263,15 @@ def hint_of(said: str) -> str | None:
     return next((hint for key, hint in _HINTS.items() if key in said), None)
 
 
-def _listen(run: subprocess.Popen[bytes], lines: list[str], heard: Heard | None) -> None:
+def _listen(run: subprocess.Popen[bytes], lines: list[str], on_line: LineListener | None) -> None:
     """Takes in what `pit` says on standard error: how far it is, and what is wrong."""
     assert run.stderr is not None
     for raw in run.stderr:
         line = raw.decode(errors="replace").rstrip()
         if not line.startswith("progress:"):
             lines.append(line)
-        elif heard:
-            heard(line)
+        elif on_line:
+            on_line(line)
 
 
 def _feed(run: subprocess.Popen[bytes], pieces: Iterable[bytes]) -> None:

@@ -18,7 +18,7 @@ from ..base.arrays import Bools, Ints
 from ..base.errors import Disagreement, NotAccepted, PlanError
 from ..base.units_shown import share_text
 from .certificate_lines import PitLines, packed, refuse_other_count
-from .process import Heard, OutOfTime, Process, Word, hint_of, left_until
+from .process import LineListener, OutOfTime, Process, Word, hint_of, left_until
 from .schedule_answer import Scheduled
 from .value_answer import Valued
 
@@ -149,7 +149,7 @@ class Bounded:
 
     Attributes
     ----------
-    said : str
+    bound : str
         What no feasible schedule is worth more than.
     nodes : int array
         The richest pit of the mine of blocks and periods: the numbers of its nodes, ascending.
@@ -157,7 +157,7 @@ class Bounded:
         The sha256 of the certificate.
     """
 
-    said: str
+    bound: str
     nodes: Ints
     certificate: str
     begun: InitVar[object] = None
@@ -453,7 +453,7 @@ class Pit(Process):
         ]
         said = self.run(
             ["shells", *words, *(["--progress"] if proved else [])],
-            heard=_each_proved(proved) if proved else None,
+            on_line=_each_proved(proved) if proved else None,
         )
         lines = re.findall(r"^SHELL (\d+) (\d+) (-?[\d.]+)$", said, re.MULTILINE)
         if not lines:
@@ -472,26 +472,26 @@ class Pit(Process):
         ]
 
 
-def _settled(progress: _Progress) -> Heard:
+def _settled(progress: _Progress) -> LineListener:
     """Tells of how many blocks `pit solve` says that they are settled."""
 
-    def heard(line: str) -> None:
+    def on_line(line: str) -> None:
         found = re.match(r"progress: (\d+) of (\d+) blocks settled", line)
         if found:
             progress(int(found[1]), int(found[2]))
 
-    return heard
+    return on_line
 
 
-def _each_proved(proved: Callable[[int], None]) -> Heard:
+def _each_proved(proved: Callable[[int], None]) -> LineListener:
     """Tells each factor of which `pit shells` says that its pit is proved."""
 
-    def heard(line: str) -> None:
+    def on_line(line: str) -> None:
         found = re.match(r"progress: factor (\d+): the pit is proved", line)
         if found:
             proved(int(found[1]))
 
-    return heard
+    return on_line
 
 
 def _shell_of_blocks(table: Path, factors: Sequence[int]) -> Ints:

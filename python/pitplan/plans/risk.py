@@ -13,10 +13,8 @@ from __future__ import annotations
 
 import hashlib
 import json
-import re
 import tempfile
 import time
-import unicodedata
 from collections.abc import Callable, Iterator, Sequence
 from contextlib import contextmanager
 from dataclasses import asdict, dataclass, replace
@@ -35,10 +33,8 @@ from ..base.errors import Disagreement, MachineError, PlanError
 from ..base.next_command import command
 from ..base.within import refuse_outside
 from ..model import store
-from ..model.classes import CLASS
 from ..model.economics import Economics
 from ..model.model import Model, TableKeys
-from ..model.weights import ORE
 from ..study import edges
 from ..base.files import FULL, made_whole, mark, sweep
 from ..base.units_shown import share_text
@@ -65,15 +61,6 @@ if TYPE_CHECKING:
 
 TENTHS = tuple(tenth / 10 for tenth in range(1, 10))
 _SPREAD = (0.1, 0.5, 0.9)
-# columns that pricing and `.blocks` ask for, beside those that [economics] names
-_ASKED = (
-    "ix",
-    "iy",
-    "iz",
-    "row",
-    "tonnes",
-    "rock",
-)
 # of each study, and of the economics as text: what all realisations of a process share
 _LEAN_MODELS: WeakKeyDictionary[Study, dict[str, Model]] = WeakKeyDictionary()
 _SCRATCH = "pitplan."  # folders of `.blocks` and certificates, in TMPDIR
@@ -263,44 +250,6 @@ def _refuse_fence(study: Study, economics: Economics, column: str) -> None:
         )
 
 
-def _words_in(value: Any) -> list[str]:
-    """The words among the values of what was read from JSON: columns and formulas are there."""
-    if isinstance(value, dict):
-        return [word for of in value.values() for word in _words_in(of)]
-    if isinstance(value, (list, tuple)):
-        return [word for of in value for word in _words_in(of)]
-    return [value] if isinstance(value, str) else []
-
-
-def lean_model(study: Study, economics: dict[str, Any]) -> Model:
-    """The study's model without the columns that pricing doesn't ask for: the planner's names of
-    10,000,000 blocks take a gigabyte."""
-    # as Python reads the plain words of a formula
-    said = unicodedata.normalize("NFKC", "\n".join(_words_in(economics)))
-    with np.load(study.where / "blocks.npz", allow_pickle=False) as file:
-        facts = store.facts_of(file)
-        columns: dict[str, Any] = {}
-        asked = {*_ASKED, facts["columns"].get(ORE)}
-        asked |= {facts["columns"].get(CLASS)} if economics.get("waste_classes") else set()
-        for name in facts["order"]:
-            if (
-                name not in asked
-                and not re.search(
-                    rf"(?<!\w){re.escape(unicodedata.normalize('NFKC', name))}(?!\w)", said
-                )
-                and not set("'\"\\") & set(name)
-            ):
-                continue  # a name with quotes may stand there in another spelling
-            if store.COLUMN + name in file.files:
-                columns[name] = file[store.COLUMN + name]
-            else:  # each word once, however many blocks have it
-                codes, words = pd.factorize(
-                    store.bytes_as_words(file[store.WORDS + name], facts["blocks"])
-                )
-                columns[name] = words[codes]
-        return store.model_from(pd.DataFrame(columns), file, facts)
-
-
 class Realisation(Study):
     """A study with the grades of one realisation. Its `.blocks` is made in a folder for the time of
     a run; the settings, with the slopes, are the study's.
@@ -340,7 +289,7 @@ class Realisation(Study):
             shared = _LEAN_MODELS.setdefault(self.base, {})
             key = json.dumps(self.setup.economics, sort_keys=True)
             if key not in shared:
-                shared[key] = lean_model(self.base, self.setup.economics)
+                shared[key] = store.load_lean(self.base.where / "blocks.npz", self.setup.economics)
             self.shared = shared[key]
         return self.shared
 
@@ -406,7 +355,7 @@ class Realisation(Study):
         self,
         factor: int,
         progress: FactorProgress | None = None,
-        sure: Callable[[], None] | None = None,
+        before_keeping: Callable[[], None] | None = None,
     ) -> Verdict:
         """One pit of this realisation, as `Study.run`; the certificate isn't kept, its digest
         is."""
@@ -414,7 +363,7 @@ class Realisation(Study):
         if done:
             return done
         with self.written():
-            return super().run(factor, progress, sure)
+            return super().run(factor, progress, before_keeping)
 
     @contextmanager
     def written(self) -> Iterator[Files]:
@@ -525,7 +474,9 @@ class Risk:
             len(setup.digests),
         )
         self.hits: Levels = np.zeros((len(self.factors), study.manifest["blocks"]), np.uint16)
-        tonnes = lean_model(study, setup.economics).blocks.tonnes.to_numpy(float)
+        tonnes = store.load_lean(
+            study.where / "blocks.npz", setup.economics
+        ).blocks.tonnes.to_numpy(float)
         self.side, self.floor = np.zeros((2, len(self.factors), self.count), np.int64)
         touching, on_floor = edges.touching(study), edges.on_floor(study.model)
         rows = []
@@ -620,7 +571,9 @@ class Risk:
             verdict = one.verdict(factor)
             assert verdict is not None
             best[r] = float(verdict["worth"])
-        tonnes = lean_model(self.study, self.setup.economics).blocks.tonnes.to_numpy(float)
+        tonnes = store.load_lean(
+            self.study.where / "blocks.npz", self.setup.economics
+        ).blocks.tonnes.to_numpy(float)
         classes = self.study.classes
         by_class = [
             {**each.means(), **(classes.rock_of(mask, tonnes) if classes else {})}
@@ -732,7 +685,7 @@ def means(study: Study, setup: Setup) -> _Means:
         Where the realisations aren't those that `prepare` looked through, or a grade of the table
         is no number.
     """
-    model = lean_model(study, setup.economics)
+    model = store.load_lean(study.where / "blocks.npz", setup.economics)
     rows = model.blocks["row"].to_numpy()
     there = rows >= 0
     total = np.zeros(int(there.sum()))

@@ -23,7 +23,7 @@ class Closed(NamedTuple):
 
     Attributes
     ----------
-    said : str
+    bound : str
         The bound by it that `pit bound` says, in units of currency.
     dug : bool array of shape (units, periods)
         Whether each unit is dug by the end of each period.
@@ -31,7 +31,7 @@ class Closed(NamedTuple):
         The sha256 of its certificate.
     """
 
-    said: str
+    bound: str
     dug: Bools
     certificate: str
 
@@ -101,4 +101,4 @@ class Bounds(ABC):
         dug = np.zeros(self.count * self.production.periods, bool)
         dug[pit.nodes] = True
         of_units = dug.reshape(self.production.periods, self.count)[:, : self.production.units]
-        return Closed(pit.said, of_units.T, pit.certificate)
+        return Closed(pit.bound, of_units.T, pit.certificate)

@@ -69,10 +69,10 @@ class Schedule:
     goes : int array of that shape
         Which way it goes where it is dug: the number of the mill or the process, from 1, and 0 to
         waste.
-    said : Scheduled
+    judged : Scheduled
         What `pit schedule` says of it.
     fixed : Decimal
-        What its fixed costs weigh, in units of currency: `said` doesn't have them.
+        What its fixed costs weigh, in units of currency: `judged` doesn't have them.
     bound : Decimal
         What no schedule of these terms is worth more than, in units of currency.
     closures : int
@@ -85,7 +85,7 @@ class Schedule:
     production: Production
     period: Indices
     goes: Ints
-    said: Scheduled
+    judged: Scheduled
     fixed: Decimal
     bound: Decimal
     closures: int
@@ -99,7 +99,7 @@ class Schedule:
     @property
     def npv(self) -> Decimal:
         """What it is worth: what `pit schedule` says, less the fixed costs."""
-        return Decimal(self.said.npv) - self.fixed
+        return Decimal(self.judged.npv) - self.fixed
 
     @property
     def count(self) -> int:

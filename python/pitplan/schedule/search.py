@@ -302,7 +302,7 @@ class Search:
         closures = self.found.closures + 1
         bound = Bound(
             self.production.key,
-            pit.said,
+            pit.bound,
             relaxed.multipliers.tolist(),
             pit.certificate,
             closures,

@@ -45,7 +45,7 @@ class Runs(Verdicts):
         self,
         factor: int,
         progress: FactorProgress | None = None,
-        sure: Callable[[], None] | None = None,
+        before_keeping: Callable[[], None] | None = None,
     ) -> Verdict:
         """One pit with its certificate: found, checked, added up again, and put in its place whole.
         Where it is there already, nothing is done; where the pit is there without a certificate, it
@@ -57,8 +57,8 @@ class Runs(Verdicts):
             Of the revenue, in thousandths.
         progress : function, optional
             Is told the factor, what is done for it, and how far that is.
-        sure : function, optional
-            Is called before anything is kept, as that of `verifying`.
+        before_keeping : function, optional
+            Called before anything is kept: as that of `verifying`, which raises where files changed meanwhile.
 
         Raises
         ------
@@ -91,8 +91,8 @@ class Runs(Verdicts):
                     ),
                     try_this="keep the folder, and tell the maintainers",
                 )
-            if sure:
-                sure()
+            if before_keeping:
+                before_keeping()
             return self.kept(work, found, time.monotonic() - start)
 
     def kept(self, work: Path, verdict: Accepted | Stated, seconds: float) -> Verdict:
@@ -120,7 +120,7 @@ class Runs(Verdicts):
         factors: Sequence[int],
         workers: int = 1,
         progress: FactorProgress | None = None,
-        sure: Callable[[], None] | None = None,
+        before_keeping: Callable[[], None] | None = None,
     ) -> None:
         """The pits at some factors without certificates, from one run of `pit shells`: each added
         up again, and put in its place.
@@ -129,7 +129,7 @@ class Runs(Verdicts):
         ----------
         factors : sequence of int
             In thousandths, ascending, at most `program.MOST_FACTORS`.
-        workers, progress, sure
+        workers, progress, before_keeping
             As of `run`; `workers` is how many factors `pit` solves at a time.
 
         Raises
@@ -147,8 +147,8 @@ class Runs(Verdicts):
             )
         for pit in found:
             self.agree(pit, pit.factor)
-        if sure:
-            sure()
+        if before_keeping:
+            before_keeping()
         for pit in found:
             with made_whole(self.place(pit.factor)) as work_of_pit:
                 self.kept(work_of_pit, pit, (time.monotonic() - start) / len(found))

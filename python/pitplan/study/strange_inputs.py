@@ -15,6 +15,7 @@ import numpy as np
 from ..base.amounts import THOUSAND, Priced
 from ..base.arrays import Bools, Ints
 from ..base.errors import KeyPath, Remedy
+from ..base.kept_json import words_in
 from ..base.strange import Strange, rounded
 from ..base.units import PRICES
 from ..base.units_shown import amount_text, length_text, printed_scale
@@ -309,7 +310,7 @@ def of_unread(model: Model, plan: _Says) -> Iterator[Strange]:
         *(metal.grade for metal in plan.economics.metals),
         *plan.slopes.codes(),
     }
-    formulas = " ".join(_words_in([vars(plan.economics), *map(vars, plan.economics.metals)]))
+    formulas = " ".join(words_in([vars(plan.economics), *map(vars, plan.economics.metals)]))
     for name in map(str, model.blocks.columns):
         if name in read or name in formulas or not is_part(name, model.blocks[name]):
             continue
@@ -320,20 +321,6 @@ def of_unread(model: Model, plan: _Says) -> Iterator[Strange]:
             remedy_of_part(name, float(values.max()), model.columns),
             ("model", "columns"),
         )
-
-
-def _words_in(value: Any) -> list[str]:
-    """All texts in a value."""
-    if isinstance(value, str):
-        return [value]
-    parts = (
-        value.values()
-        if isinstance(value, Mapping)
-        else value
-        if isinstance(value, Sequence)
-        else []
-    )
-    return [word for part in parts for word in _words_in(part)]
 
 
 def _of_costs(priced: Priced, rock: Bools, economics: Economics) -> Iterator[Strange]:
@@ -356,15 +343,15 @@ def _of_costs(priced: Priced, rock: Bools, economics: Economics) -> Iterator[Str
                 f"no block goes to {way.name} at the full price"
                 + (f"; it costs {said.cost:,.6g} {economics.currency} a tonne" if is_one else ""),
                 "",
-                f"cost, recovery and rocks of {said.said}",
+                f"cost, recovery and rocks of {said.label}",
                 said.key("processing"),
             )
         if ore.any() and (way.processing[ore] == 0).mean() > 0.5:
             key = said.key("processing")
             yield Strange(
-                f"treating the ore {f'by {way.name} ' if said.said else ''}costs nothing",
+                f"treating the ore {f'by {way.name} ' if said.label else ''}costs nothing",
                 "it costs something a tonne",
-                f"cost of {said.said}" if said.said else "processing in [economics]",
+                f"cost of {said.label}" if said.label else "processing in [economics]",
                 key,
             )
 

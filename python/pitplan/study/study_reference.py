@@ -17,7 +17,7 @@ from ..table.study_keys import KEYS, LISTS, METALS, NEEDED, PROCESSES, SECTIONS,
 from ..table.value_kinds import KINDS
 
 _BEGIN, _END = "<!-- keys: made by study_reference.py -->\n", "<!-- end of keys -->\n"
-_HEAD = "| Key | What it says | What it may be | Unless given |\n|---|---|---|---|\n"
+_HEAD = "| Key | What it says | What it may be | Default |\n|---|---|---|---|\n"
 _DIALECT = "https://json-schema.org/draft/2020-12/schema"
 
 

@@ -72,11 +72,15 @@ def run_each(
     left = _missing(factors, study.certified, progress)
     if left:
         # nothing is kept before the files are known to be those of the build
-        with study.verifying() as sure:
+        with study.verifying() as before_keeping:
             for factor in _at_once(
-                study, sorted(left, reverse=True), workers_for(study, workers), progress, sure
+                study,
+                sorted(left, reverse=True),
+                workers_for(study, workers),
+                progress,
+                before_keeping,
             ):
-                _one(study, factor, progress, sure)
+                _one(study, factor, progress, before_keeping)
 
 
 def _missing(
@@ -111,17 +115,22 @@ def run_together(
     left = _missing(sorted(factors), study.verdict, progress)
     if not left:
         return
-    with study.verifying() as sure, ThreadPoolExecutor(1) as pool:
+    with study.verifying() as before_keeping, ThreadPoolExecutor(1) as pool:
         for at in range(0, len(left), MOST_FACTORS):
             some = left[at : at + MOST_FACTORS]
             try:
                 _series(
-                    study, pool, some, min(workers_for(study, workers), len(some)), progress, sure
+                    study,
+                    pool,
+                    some,
+                    min(workers_for(study, workers), len(some)),
+                    progress,
+                    before_keeping,
                 )
             except Killed:
                 if progress:
                     progress(some[-1], "killed", 0.0)
-                _series(study, pool, some, 1, progress, sure)
+                _series(study, pool, some, 1, progress, before_keeping)
 
 
 def _series(
@@ -130,10 +139,10 @@ def _series(
     factors: Sequence[int],
     workers: int,
     progress: FactorProgress | None,
-    sure: Callable[[], None],
+    before_keeping: Callable[[], None],
 ) -> None:
     """One run of `pit shells`; what the tables of a series need is read beside it."""
-    running = pool.submit(study.run_series, factors, workers, progress, sure)
+    running = pool.submit(study.run_series, factors, workers, progress, before_keeping)
     try:
         study.read_ahead()
         for done in as_they_end([running]):
@@ -145,10 +154,10 @@ def _series(
 
 
 def _one(
-    study: Runs, factor: int, progress: FactorProgress | None, sure: Callable[[], None]
+    study: Runs, factor: int, progress: FactorProgress | None, before_keeping: Callable[[], None]
 ) -> Verdict:
     """Runs one factor, and tells that it is done."""
-    done = study.run(factor, progress, sure)
+    done = study.run(factor, progress, before_keeping)
     if progress:
         progress(factor, "done", 1.0)
     return done
@@ -159,13 +168,13 @@ def _at_once(
     factors: Sequence[int],
     workers: int,
     progress: FactorProgress | None,
-    sure: Callable[[], None],
+    before_keeping: Callable[[], None],
 ) -> list[int]:
     """Runs all factors, the dearest first, and returns those whose `pit` was killed."""
     killed: list[int] = []
     with ThreadPoolExecutor(workers) as pool:
         running: dict[Future[Verdict], int] = {
-            pool.submit(_one, study, factor, progress, sure): factor for factor in factors
+            pool.submit(_one, study, factor, progress, before_keeping): factor for factor in factors
         }
         try:
             study.read_ahead()

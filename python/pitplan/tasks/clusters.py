@@ -309,7 +309,7 @@ def run_dask(
     study: Study,
     tasks: Iterable[Task],
     client: Any,
-    heard: Callable[[Task, int, int], None] | None = None,
+    on_done: Callable[[Task, int, int], None] | None = None,
 ) -> None:
     """Does tasks over the workers of a ``distributed.Client``. Words alone go over the network; the
     study's folder is shared.
@@ -320,7 +320,7 @@ def run_dask(
     Parameters
     ----------
     client : distributed.Client
-    heard : function, optional
+    on_done : function, optional
         Called with each task that is done.
 
     Raises
@@ -347,8 +347,8 @@ def run_dask(
     }
     for done, future in enumerate(as_completed(futures), 1):
         future.result()
-        if heard:
-            heard(futures[future], done, len(asked_for))
+        if on_done:
+            on_done(futures[future], done, len(asked_for))
 
 
 def _do_words(folder: str, program: str, words: str) -> int:

@@ -29,7 +29,9 @@ from .tasks import memory_of_task
 _TRIES = 3
 _PATIENCE = 20  # seconds that a process gets to take away what it has half done
 _START = "import sys; sys.path.insert(0, {!r}); from pitplan.cli.main import main; main()"
-Heard = Callable[[Task, int, int], None]  # a task that is done, how many are, and of how many
+TaskListener = Callable[
+    [Task, int, int], None
+]  # a task that is done, how many are, and of how many
 
 
 def processes_for(study: Study, wanted: int | None = None) -> int:
@@ -40,7 +42,10 @@ def processes_for(study: Study, wanted: int | None = None) -> int:
 
 
 def run_local(
-    study: Study, tasks: Iterable[Task], workers: int | None = None, heard: Heard | None = None
+    study: Study,
+    tasks: Iterable[Task],
+    workers: int | None = None,
+    on_done: TaskListener | None = None,
 ) -> int:
     """Does tasks on this machine. Those that are done already are passed over by whoever lists them
     (`Tasks.left`).
@@ -49,7 +54,7 @@ def run_local(
     ----------
     workers : int, optional
         How many at a time, as `processes_for`.
-    heard : function, optional
+    on_done : function, optional
         Called with each task that is done.
 
     Returns
@@ -78,8 +83,8 @@ def run_local(
     def tell(task: Task) -> None:
         with lock:
             done[0] += 1
-            if heard:
-                heard(task, done[0], len(left))
+            if on_done:
+                on_done(task, done[0], len(left))
 
     with ThreadPoolExecutor(count) as pool:
         try:

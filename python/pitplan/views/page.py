@@ -109,7 +109,7 @@ def _cell_html(text: str) -> str:
 def view_html(number: int, view: View, key: str) -> str:
     """What stands below the pictures: the tables of a view and what they rest on."""
     tables = "\n".join(map(table_html, (view.table, *view.more)))
-    said = "".join(f'<p class="said">{html.escape(line.strip())}</p>' for line in view.said)
+    said = "".join(f'<p class="said">{html.escape(line.strip())}</p>' for line in view.lines)
     return (
         f'<section id="view-{number}"'
         f' aria-label="{html.escape(view.name)}">\n{tables}\n{said}<p'

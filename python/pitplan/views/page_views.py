@@ -106,7 +106,7 @@ class View:
         compared.
     is_beside : bool
         Whether two surfaces are compared; else each lies within the next.
-    said : list of str
+    lines : list of str
         What is told above the facts.
     more : list of ViewTable
         Below the first one.
@@ -122,7 +122,7 @@ class View:
     start: int
     weights: list[float] = field(default_factory=list)
     is_beside: bool = False
-    said: list[str] = field(default_factory=list)
+    lines: list[str] = field(default_factory=list)
     more: list[ViewTable] = field(default_factory=list)
 
     @property
@@ -373,7 +373,7 @@ def design(study: Study, comparison: Comparison) -> View:
         ["in both", "beyond the best pit", "left by the design"],
         1,
         is_beside=True,
-        said=said,
+        lines=said,
         more=[
             _bench_by_bench(study, comparison),
             *by_kinds(study, {comparison.design.name: held, "best pit": best}, comparison.factor),
@@ -457,7 +457,7 @@ def likelihood(risk: Risk, factor: int, table: pd.DataFrame) -> View:
         names,
         1 + names.index("50%"),
         _added(table["rock_t"]),
-        said=said,
+        lines=said,
         more=[_spread(risk, currency)],
     )
 

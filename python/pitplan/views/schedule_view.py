@@ -74,7 +74,7 @@ def schedule(schedule: Schedule, years: pd.DataFrame) -> View:
         names,
         len(names),
         years["rock_t"].tolist(),
-        said=[
+        lines=[
             f"{currency} {math.floor(schedule.npv):,}, at most {schedule.gap_text} below the best: no"
             f" schedule brings more than {currency} {math.ceil(schedule.bound):,}",
             *([left.words(rock, currency)] if left.blocks else []),

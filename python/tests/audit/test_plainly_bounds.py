@@ -46,7 +46,7 @@ def test_it_says_the_bound_of_units(tmp_path, kind):
     made, r = MADE[kind](), np.random.default_rng(3)
     nodes = UnitTexts(made)
     prices = r.integers(0, 10**6, made.capacities.shape)
-    said = nodes.closed(Pit(), tmp_path, prices, None).said
+    said = nodes.closed(Pit(), tmp_path, prices, None).bound
     mine = nodes.mine(Pit(), tmp_path, prices)
     certificate = tmp_path / "bound.cert.gz"
     assert plain(*mine.words(), certificate) == (f"BOUND {said}", 0)
@@ -89,9 +89,9 @@ def test_recheck_lets_pit_and_plainly_judge_a_plan_by_ways(request, kind):
     of_ways = 'each block by whichever way (cutoff = "by year")'
     told = rf"ok +pit schedule of the plan by years, .* {re.escape(of_ways)}: (.*)"
     said = re.search(told, ran.stdout)[1]
-    words = f"SCHEDULE {found.count} {found.said.npv} BROKEN 0 BOUND {found.said.bound}"
-    assert said == f"{words} GAP {found.said.gap}"
-    assert f"plainly.py of its bound: BOUND {found.said.bound}\n" in ran.stdout
+    words = f"SCHEDULE {found.count} {found.judged.npv} BROKEN 0 BOUND {found.judged.bound}"
+    assert said == f"{words} GAP {found.judged.gap}"
+    assert f"plainly.py of its bound: BOUND {found.judged.bound}\n" in ran.stdout
 
 
 def test_recheck_refuses_a_block_that_goes_to_another_process(of_processes, tmp_path):

@@ -8,7 +8,7 @@ import pytest
 pytest.importorskip("selenium")
 pytest.importorskip("starlette")
 
-from desks import NAMELESS, WIDE, Chromium, Desk
+from desks import NAMELESS, WIDE, Desk
 from pitplan.table.study_keys import KEYS, LISTS
 from processes import TOP
 
@@ -17,15 +17,6 @@ SHOWN = "return [...document.querySelectorAll('#main .field')].map(e => e.id)"
 LISTED = """return [...document.querySelectorAll('#main .metals [id^="i."], #main .metals label')]
     .map(e => e.id || e.htmlFor)"""
 WITHOUT_A_FIELD = {}  # of a key: why it has none
-
-
-@pytest.fixture(scope="module")
-def browser():
-    found = Chromium()
-    yield found
-    assert not found.complaint()
-    assert not found.complaints()
-    found.close()
 
 
 @pytest.fixture

@@ -7,20 +7,11 @@ import pytest
 pytest.importorskip("selenium")
 pytest.importorskip("starlette")
 
-from desks import Chromium, Desk
+from desks import Desk
 from processes import TOP
 
 HILL = (TOP / "examples" / "hill.csv").read_text()
 PRICE = "i.economics.metals.0.price"
-
-
-@pytest.fixture(scope="module")
-def browser():
-    found = Chromium()
-    yield found
-    assert not found.complaint()
-    assert not found.complaints()
-    found.close()
 
 
 @pytest.fixture

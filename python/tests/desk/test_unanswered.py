@@ -7,7 +7,7 @@ import pytest
 pytest.importorskip("selenium")
 pytest.importorskip("starlette")
 
-from desks import Chromium, Desk
+from desks import Desk
 from processes import TOP
 
 # answers come to the page once they are let go: those of changes, or those of the study as it stands
@@ -33,15 +33,6 @@ HELD = "return window.held.length"
 DRAWS = "dispatchEvent(new HashChangeEvent('hashchange'))"
 PENDING = "return document.documentElement.dataset.pending"
 RAMP = {"width": 25, "grade": 0.10, "height": 300, "turns": 2}
-
-
-@pytest.fixture(scope="module")
-def browser():
-    found = Chromium()
-    yield found
-    assert not found.complaint()
-    assert not found.complaints()
-    found.close()
 
 
 @pytest.fixture

@@ -1,4 +1,5 @@
 """A model as arrays in one file: what comes back, and what is refused."""
+import dataclasses
 import json
 
 import numpy as np
@@ -54,3 +55,22 @@ def test_a_store_takes_no_pickles(tmp_path):
     np.savez(tmp_path / "x.npz", told=np.array([{"a": 1}], dtype=object))
     with pytest.raises(pp.PlanError, match="isn.t a model that pitplan wrote"):
         store.load_model(tmp_path / "x.npz")
+
+
+def test_the_lean_model_has_what_pricing_asks_for(tmp_path):
+    frame = table(6, 5, 4, 3).rename(columns={"AU": "ley é", "TONNES": "T"})
+    frame = frame.assign(**{"it's": 1.5, "spare": 1.0, "CLAY_\u00b5": 0.5})
+    economics = costs(
+        mining="2 + 0.01 * (160 - ZC) + column('ley é') + CLAY_\u03bc",
+        processing={"OXI": 7.5, "SUL": 9.0},
+        forbid=["SECTOR == 'WEST' and column(\"it's\") > 2"],
+    )
+    study = study_of(tmp_path, frame, economics=economics, columns={"tonnes": "T"})
+    lean = store.load_lean(study.where / "blocks.npz", dataclasses.asdict(economics))
+    assert {"ZC", "ley é", "SECTOR", "it's", "CU", "rock"} <= set(lean.blocks.columns)
+    assert not {"spare", "id", "IJK", "T", "XC"} & set(lean.blocks.columns)
+    assert lean.blocks.rock.tolist() == study.model.blocks.rock.tolist()
+    ours = economics.priced(lean)
+    for name in ("revenue", "processing"):
+        assert (getattr(ours.ways[0], name) == getattr(study.priced.ways[0], name)).all()
+    assert (ours.mining == study.priced.mining).all()

@@ -1,5 +1,4 @@
 """Risk over realisations: pits of a likelihood are closed by pit's own word, and nested."""
-import dataclasses
 import gzip
 import hashlib
 import json
@@ -171,25 +170,6 @@ def test_a_certificate_of_a_realisation_is_written_into_scratch_and_not_packed(
     assert len(places) == len(FACTORS)
     assert all(path.name == "best.cert" and path.parent.parent == scratch for path in places)
     assert not list(scratch.iterdir())
-
-
-def test_the_lean_model_has_what_pricing_asks_for(tmp_path):
-    frame = table(6, 5, 4, 3).rename(columns={"AU": "ley é", "TONNES": "T"})
-    frame = frame.assign(**{"it's": 1.5, "spare": 1.0, "CLAY_\u00b5": 0.5})
-    economics = costs(
-        mining="2 + 0.01 * (160 - ZC) + column('ley é') + CLAY_\u03bc",
-        processing={"OXI": 7.5, "SUL": 9.0},
-        forbid=["SECTOR == 'WEST' and column(\"it's\") > 2"],
-    )
-    study = study_of(tmp_path, frame, economics=economics, columns={"tonnes": "T"})
-    lean = risk.lean_model(study, dataclasses.asdict(economics))
-    assert {"ZC", "ley é", "SECTOR", "it's", "CU", "rock"} <= set(lean.blocks.columns)
-    assert not {"spare", "id", "IJK", "T", "XC"} & set(lean.blocks.columns)
-    assert lean.blocks.rock.tolist() == study.model.blocks.rock.tolist()
-    ours = economics.priced(lean)
-    for name in ("revenue", "processing"):
-        assert (getattr(ours.ways[0], name) == getattr(study.priced.ways[0], name)).all()
-    assert (ours.mining == study.priced.mining).all()
 
 
 def test_pits_of_a_realisation_that_arent_nested_are_never_shown(tmp_path):

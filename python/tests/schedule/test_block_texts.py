@@ -59,12 +59,12 @@ def test_units_and_the_models_own_files_give_one_bound(found, tmp_path):
             folder = tmp_path / f"{k} {type(nodes).__name__}"
             folder.mkdir()
             said.append(nodes.closed(study.program, folder, prices, None))
-        assert said[0].said == said[1].said
+        assert said[0].bound == said[1].bound
         assert (said[0].dug == said[1].dug).all()
 
 
 def test_pit_says_bound_and_gap_of_what_is_shown(found):
-    made, said = found[1].production, found[1].said
+    made, said = found[1].production, found[1].judged
     kept = Kept(found[1].shells.study.folder, made).bound()
     assert said.bound == kept.said
     assert Decimal(said.gap) == Decimal(said.bound) - Decimal(said.npv)
@@ -84,7 +84,7 @@ def test_another_bound_than_the_certificates_is_refused(found, tmp_path, wrong):
     changed = replace(bound, **{wrong: lower if wrong == "said" else raised})
     with pytest.raises(PlanError, match="this package counts|REFUSED"):
         judged(study, made, plan, tmp_path, (changed, kept.certificate))
-    assert judged(study, made, plan, tmp_path, (bound, kept.certificate)) == found[1].said
+    assert judged(study, made, plan, tmp_path, (bound, kept.certificate)) == found[1].judged
 
 
 def test_the_bundles_checker_comes_to_that_bound(found):
@@ -137,5 +137,5 @@ def test_of_several_processes_units_and_the_models_own_files_give_one_bound(tmp_
         folder = tmp_path / type(nodes).__name__
         folder.mkdir()
         said.append(nodes.closed(shells.study.program, folder, prices, None))
-    assert said[0].said == said[1].said
+    assert said[0].bound == said[1].bound
     assert (said[0].dug == said[1].dug).all()

@@ -59,6 +59,6 @@ def test_any_multipliers_give_a_bound(tmp_path, seed):
     r = np.random.default_rng(seed)
     for k in range(4):
         prices = r.integers(0, 4_000_000, (2, PERIODS)) * (k > 0)
-        assert nodes.total(nodes.closed(Pit(), tmp_path, prices, None).said, prices) >= best
+        assert nodes.total(nodes.closed(Pit(), tmp_path, prices, None).bound, prices) >= best
     with pytest.raises(PlanError, match="BadValue|multipliers"):
         nodes.closed(Pit(), tmp_path, np.full((2, PERIODS), -1), None)

@@ -88,7 +88,7 @@ def test_the_page_says_why_it_has_no_table_of_classes(mine):
     found = Schedule.last(study.shells(plan.factors), plan.values["schedule"], plan.rates)
     view = schedule(found, Tables(found).years())
     assert not view.more
-    assert any(line.startswith("There is no table of ore by class:") for line in view.said)
+    assert any(line.startswith("There is no table of ore by class:") for line in view.lines)
 
 
 def test_it_brings_more_than_with_a_fixed_cutoff(mine):

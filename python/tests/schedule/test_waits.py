@@ -30,7 +30,7 @@ TERMS = "\n[schedule]\nyears = 6\nmining_rate = 500e3\nmill_rate = 400e3\n"
 def bound_by(made, folder, prices):
     folder.mkdir()
     nodes = UnitTexts(made)
-    return nodes.total(nodes.closed(Pit(), folder, prices, None).said, prices)
+    return nodes.total(nodes.closed(Pit(), folder, prices, None).bound, prices)
 
 
 def as_others_write(monkeypatch, columns=None, lag=None):

@@ -32,8 +32,8 @@ def test_the_page_has_the_mine_at_the_end_of_each_year(found, tmp_path):
     assert facts["Rate that binds"] == [text or "-" for text in years.binds]
     assert view.table.names == [str(t) for t in years.year]
     assert view.slider == "After year"
-    assert f"{int(found.npv):,}" in view.said[0]
-    assert found.gap_text in view.said[0]
+    assert f"{int(found.npv):,}" in view.lines[0]
+    assert found.gap_text in view.lines[0]
     path = page.write_views(tmp_path / "s.html", found.shells.study, [view], "schedule")
     assert "Schedule by years" in path.read_text()
 
@@ -57,23 +57,23 @@ def test_each_word_is_that_of_the_period(found):
 def test_what_stays_in_the_ground_is_said(found):
     """The blocks of the last year, as of a plan that doesn't dig them."""
     years, made = Tables(found).years(), copy.copy(found)
-    assert not any("in the ground" in each for each in schedule_view.schedule(found, years).said)
+    assert not any("in the ground" in each for each in schedule_view.schedule(found, years).lines)
     last = found.period == found.period.max()
     object.__setattr__(made, "period", np.where(last, -1, found.period))
     view = schedule_view.schedule(made, Tables(made).years())
     study = found.shells.study
     stays = last & study.model.is_rock
     tonnes = study.model.blocks.tonnes.to_numpy()[stays].sum()
-    assert view.said[1].startswith(f"{stays.sum():,} blocks of the pit stay in the ground, ")
+    assert view.lines[1].startswith(f"{stays.sum():,} blocks of the pit stay in the ground, ")
     assert (
-        f" {tonnes / 1e6:,.2f} Mt worth " in view.said[1]
-        or f"{tonnes / 1e3:,.2f} kt" in view.said[1]
+        f" {tonnes / 1e6:,.2f} Mt worth " in view.lines[1]
+        or f"{tonnes / 1e3:,.2f} kt" in view.lines[1]
     )
 
 
 def test_no_amount_is_said_that_is_more_than_is_known(found):
     """The worth is rounded down, and the bound up."""
-    (said, *_) = schedule_view.schedule(found, Tables(found).years()).said
+    (said, *_) = schedule_view.schedule(found, Tables(found).years()).lines
     numbers = [
         int(word.strip(",").replace(",", ""))
         for word in said.split()
