@@ -1,6 +1,6 @@
 //! The machine without a lock: whole runs of one or two workers over the words of a net.
 //!
-//! `opening` makes the words of a net, whose negative worths are cut (`cutting`), and seats at them. A seat makes one
+//! `opening` makes the words of a net, whose negative worths are cut (`clipped_worths`), and seats at them. A seat makes one
 //! step at a time (`seats`), a worker takes turns at its seat until the gate closes or all has arrived (`serving`), and
 //! what the words then show is settled as a flow (`settling`, `flows`).
 //!
@@ -35,7 +35,7 @@
 #![tactic(auto)]
 
 mod amounts;
-mod cutting;
+mod clipped_worths;
 mod flows;
 mod net_words;
 mod opening;

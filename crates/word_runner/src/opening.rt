@@ -7,7 +7,7 @@ ghost use Rattle.word_runner.specs.CutNets.{AreGains};
 ghost use Rattle.word_runner.specs.Openings.{IsFirst, AreFirst, IsBegun, AreOpenedSeats, OpeningFaultStands, WordsFaultStands};
 
 use crate::amounts::{gains, losses};
-use crate::cutting::cut_net;
+use crate::clipped_worths::cut_net;
 use crate::net_words::Words;
 use crate::seats::WordSeat;
 use crate::words_fault::WordsFault;

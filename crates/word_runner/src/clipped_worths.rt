@@ -16,7 +16,7 @@ fn opposite_of(most: u64) -> i128
     -(most as i128)
 }
 
-// A worth, nearer to zero where it takes more than so much.
+// A worth, clipped to minus so much.
 fn cut_worth(worth: Scaled, most: u64) -> Scaled
     ensures { IsCutWorth (scaled_parts worth) most (scaled_parts result) }
 {
@@ -27,7 +27,7 @@ fn cut_worth(worth: Scaled, most: u64) -> Scaled
     worth
 }
 
-// All worths of a net, so.
+// The worths of a net, each clipped.
 fn cut_worths(alloc: Global, net: &Net<Scaled>, most: u64) -> Result<Vec<Scaled>, AllocError>
     ensures { IfOk result (λ v. AreCut net.now most (map scaled_parts v.items)) }
 {

@@ -1,7 +1,7 @@
 use Rattle.std.proofs.Common.{◌≡◌, ◌<◌, ◌≤◌, ◌-◌, ℕ, length, map}
 use Rattle.ordered_group.specs.Sums.{amount_at}
 use Rattle.word_runner.specs.CutNets.{scaled_parts, IsCutWorth}
-use Rattle.word_runner.proofs.cutting.cut_worths.Given as goal
+use Rattle.word_runner.proofs.clipped_worths.cut_worths.Given as goal
 
 abbrev pub invariant-loop-b : goal.invariant-loop-b
 invariant-loop-b l = (l.b ≤ l.blocks) × (length l.worths.items ≡ l.b)

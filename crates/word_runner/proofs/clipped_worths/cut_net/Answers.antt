@@ -3,7 +3,7 @@ use Rattle.closure_net.specs.Network.{NetView, net_view}
 use Rattle.machine_law.specs.Conservation.{all_given}
 use Rattle.word_runner.specs.CutNets.{scaled_parts, AreCut, AreWithin, net_with_worths}
 use Rattle.word_runner.proofs.Cuts.{cuts_from, cut_gives, cut_within, cut_builds}
-use Rattle.word_runner.proofs.cutting.cut_net.Goals as goal
+use Rattle.word_runner.proofs.clipped_worths.cut_net.Goals as goal
 
 pub returns : goal.returns
 returns c =

@@ -2,7 +2,7 @@ use Rattle.std.proofs.Common.{rules, subst}
 use Rattle.ordered_group.specs.Prelude.{Amount, amount_at}
 use Rattle.word_runner.specs.CutNets.{scaled_parts, IsCutWorth}
 use Rattle.word_runner.proofs.Cuts.{pushed_all}
-use Rattle.word_runner.proofs.cutting.cut_worths.Goals as goal
+use Rattle.word_runner.proofs.clipped_worths.cut_worths.Goals as goal
 
 pub loop-b-preserved : goal.loop-b-preserved
 loop-b-preserved c =
