@@ -14,7 +14,7 @@ sys.path.insert(0, str(TOP / "tools"))
 from manual import REFERENCE  # noqa: E402
 
 PROGRAMS = {"recheck", "plainly", "recheck_schedule"}  # of one file, which an auditor runs
-PARTICIPLES = ("asked", "found", "given", "said", "told")  # which may be anything
+PARTICIPLES = ("asked", "found", "given", "said", "told")  # which say nothing of what is held
 USERS = ("python", "tools", "tests", "bench", "examples", "docs")
 
 
