@@ -293,18 +293,6 @@ def in_table(table: object) -> Iterator[None]:
 
 
 @contextmanager
-def in_file(name: str) -> Iterator[None]:
-    """Errors raised within that name a key, and neither a table nor a row, are of this file."""
-    try:
-        yield
-    except PlanError as error:
-        for each in {*error.each(), error}:
-            if each.key and each.table is None and each.row is None:
-                each.table = name
-        raise
-
-
-@contextmanager
 def about(*key: str | int) -> Iterator[None]:
     """Errors raised within concern a key of study.toml, unless they say of another."""
     try:

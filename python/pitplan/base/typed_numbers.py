@@ -9,7 +9,7 @@ _GROUPS = re.compile(
     r"([+-]?\d{1,3})(?P<group>[,.'’ \u00a0\u2009\u202f])(\d{3})((?:(?P=group)\d{3})*)"
     r"(?:(?P<point>(?!(?P=group))[.,])(\d+))?"
 )
-_COMMA = re.compile(r"([+-]?\d+),(\d+)")
+_COMMA = re.compile(r"([+-]?\d+),(\d+(?:[eE][+-]?\d+)?)")
 
 
 @dataclass(frozen=True)
@@ -38,6 +38,8 @@ def typed_number(text: str) -> _Typed | None:
 
     >>> [typed_number(text).value for text in ("9,250", "1.250,5", "12,5", "1.250.000")]
     [9250, 1250.5, 12.5, 1250000]
+    >>> typed_number("1,25e6").value
+    1250000.0
     >>> typed_number("9250"), typed_number("1.250"), typed_number("ZC, 5")
     (None, None, None)
     >>> typed_number("0,965").value, typed_number("0,965").other  # no thousands begin with 0

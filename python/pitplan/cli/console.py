@@ -194,6 +194,9 @@ def tell(error: PlanError) -> None:
     """Prints an error, or each of several, with the line of study.toml that it concerns."""
     from ..base.error_text import lines_of
 
+    for each in error.each():
+        if study_toml and each.key and each.table is None and each.row is None:
+            each.table = study_toml.name
     events.error(error, study_toml)
     for each in error.each():
         err.print(

@@ -91,8 +91,8 @@ def _words(found: Found) -> str:
     """How far a search is."""
     if found.npv is None:
         return "no schedule yet"
-    best = f", the best of {found.closures:,}" if found.closures > 1 else ""
-    gap = f"{found.gap:.3%} below the bound{best}" if found.gap < 1e9 else "no bound yet"
+    bound = f"the best of {found.closures:,} bounds" if found.closures > 1 else "the bound"
+    gap = f"{found.gap:.3%} below {bound}" if found.gap < 1e9 else "no bound yet"
     return f"a schedule of {counted(found.filled, 'period')}, {gap}"
 
 

@@ -195,9 +195,9 @@ def _without_plan(folder: Path, again: str) -> str:
     from ..schedule.kept_search import is_lost, lost
     from ..study.last_run import now_at
 
-    far, kept = now_at(folder, "schedule"), folder / "runs" / "schedule"
-    if far is not None:
-        return f"none yet; its search runs: {far}"
+    kept = folder / "runs" / "schedule"
+    if now_at(folder, "schedule") is not None:
+        return "none yet; its search runs"  # how far it is, the last line tells
     if is_lost(kept):
         error = lost(kept)
         return f"none: {error.said}\n  try: {error.try_this}"

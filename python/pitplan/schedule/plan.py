@@ -13,12 +13,11 @@ import numpy as np
 
 from ..base.amounts import THOUSAND
 from ..base.arrays import Array, Bools, Indices, Ints
-from ..base.errors import NotAccepted, PlanError, in_file
+from ..base.errors import NotAccepted, PlanError
 from ..base.next_command import command
 from ..base.units_shown import Scale
 from ..pit.schedule_answer import Scheduled
 from ..study.pit_by_pit import Rates
-from ..study.study_file import NAME
 from .search_ends import End, Limits, SearchStopped, gap_text
 from .pit_schedule import judged
 from .destinations import Timetable
@@ -202,7 +201,6 @@ class Schedule:
         return cls.found_by(Search(place, made, shells.study.program, None, files), shells)
 
     @classmethod
-    @in_file(NAME)
     def found_by(cls, search: Search, shells: Shells) -> Schedule | None:
         """The best of what a search has, as `pit` judges it; None where it has no schedule or no
         bound. Raises PlanError where nothing is dug that pays."""
@@ -318,7 +316,6 @@ def _stopped(search: Search, shells: Shells) -> SearchStopped:
     return SearchStopped(found, _digest(made, made.of_blocks(plan), _goes_of(made, plan, shells)))
 
 
-@in_file(NAME)
 def production_for(
     shells: Shells, values: Mapping[str, Any], rates: Mapping[str, Any]
 ) -> Production:

@@ -14,7 +14,7 @@ from ..base.errors import Gathered, PlanError, about
 from ..base.near_words import meant
 from ..base.units_shown import counted, share_text
 from ..study.shells import thousandths
-from ..study.study_file import NAME, StudyFile
+from ..study.study_file import StudyFile
 from ..table.study_keys import with_defaults
 
 MILLION = 10**6  # weights are in millionths
@@ -138,7 +138,7 @@ def _wrong_values(values: Mapping[str, Any], rates: Mapping[str, Any]) -> Gather
     values, rates : mapping
         As of `terms_of`.
     """
-    found, per_year, years = Gathered(NAME), _per_year_of(values), values.get("years")
+    found, per_year, years = Gathered(), _per_year_of(values), values.get("years")
     with found.part("schedule", "process_rates"):
         processes = process_rates_of(values, rates)
         with found.part():
@@ -262,7 +262,9 @@ def wrong_terms(plan: StudyFile, then: str) -> list[PlanError]:
         pushbacks = pushbacks_of(values.get("pushbacks") or ())
         with found.part("schedule", "pushbacks"):
             refuse_missing(pushbacks, plan.factors, then)
-    return found.errors
+    told = Gathered(plan.path.name)
+    told.add(found.errors)
+    return told.errors
 
 
 def refuse_parts(rounding: Decimal) -> None:

@@ -19,7 +19,7 @@ from ..base.kept_json import words_in
 from ..base.strange import Strange, rounded
 from ..base.units import PRICES
 from ..base.units_shown import amount_text, length_text, printed_scale
-from ..base.usual_metals import usual_price
+from ..base.usual_metals import unit_of, usual_price
 from ..model.economics import Economics, Metal
 from ..model.grid import Grid
 from ..model.model import Model, TableKeys
@@ -40,6 +40,7 @@ _FAR_OFF = (
 _DENSEST = 8  # tonnes for a cubic unit; ores of iron have up to 5
 _TIMES_DENSER = 5  # how many times the usual density a block's may be
 _FEW = 10  # cells that are looked at so
+_ONE_IN_A_MILLION = ("g/t", "ppm")
 _RICH = 0.1  # the share of a rock that has grades as ore has
 _EVERYWHERE = 0.95  # the share of the rock from which on a formula keeps nearly all
 _TIMES_USUAL = 8  # how many times a metal's usual price a price may be, or its share
@@ -109,12 +110,13 @@ def looks(model: Model, priced: Priced, plan: _Says) -> list[Strange]:
         *_of_untaken(model, priced, plan.economics),
         *_of_density(model),
         *_of_cells(model, plan.economics),
+        *_of_grade_units(model, plan.economics),
         *of_unread(model, plan),
         *_of_costs(priced, rock, plan.economics),
         *_of_prices(plan.economics),
         *_of_selling(plan.economics),
         *of_rates(model, priced, plan.rates),
-        *_of_schedule_rates(model, priced, plan.values["schedule"]),
+        *_of_schedule_rates(model, priced, plan.values["schedule"], plan.rates),
         *_of_forbid(priced, rock),
         *_of_regions(model, plan.slopes),
         *_of_bearings(plan.slopes),
@@ -294,6 +296,23 @@ def _of_cells(model: Model, economics: Economics) -> Iterator[Strange]:
             )
 
 
+def _of_grade_units(model: Model, economics: Economics) -> Iterator[Strange]:
+    """Grades in another unit than the name of their column says; of formulas nothing is said."""
+    for metal in economics.metals:
+        named = unit_of(metal.grade) if metal.grade in model.blocks else None
+        units = {named, metal.grade_unit}
+        if named and len(units) > 1 and not units <= set(_ONE_IN_A_MILLION):
+            key: KeyPath = ("economics", METALS, metal.name, "grade_unit")
+            yield Strange(
+                f"the column {metal.grade} is in {named} by its name, and {metal.name} in"
+                f" {metal.grade_unit}",
+                "",
+                str(Remedy(key, named)),
+                key,
+                Remedy(key, named),
+            )
+
+
 def _others(count: int) -> str:
     return f", and {count - 1} like it" if count > 1 else ""
 
@@ -444,13 +463,13 @@ def of_rates(model: Model, priced: Priced, rates: Mapping[str, Any]) -> Iterator
     dug, treated = rates.get("mining_rate"), rates.get("mill_rate")
     feeds = [float(each.sum()) for each in priced.feeds_of(tonnes, THOUSAND)]
     of_processes = list((rates.get("process_rates") or {}).items())
-    if dug and treated and treated > dug * max(priced.ways[0].feed, 1.0):
-        yield Strange(
-            f"the mill takes {rounded(treated, 6)} tonnes a year, and {rounded(dug, 6)} are dug",
-            "no more is milled than is dug",
-            "mining_rate and mill_rate in [shells], the other way round",
-            ("shells", "mill_rate"),
-        )
+    each: list[_Way] = [("the mill", treated, "mill_rate in [shells]", ("shells", "mill_rate"))]
+    if of_processes:
+        each = [
+            (name, rate, f"rate of process {name}", ("economics", PROCESSES, name, "rate"))
+            for name, rate in of_processes
+        ]
+    yield from _of_more_than_is_dug(priced, dug, "mining_rate in [shells]", each)
     asked: list[_Rate] = [
         ("rock", dug, float(tonnes.sum()), "mining_rate in [shells]", ("shells", "mining_rate"))
     ]
@@ -471,7 +490,28 @@ def of_rates(model: Model, priced: Priced, rates: Mapping[str, Any]) -> Iterator
     yield from _of_long_or_short(asked)
 
 
-def _of_schedule_rates(model: Model, priced: Priced, terms: Mapping[str, Any]) -> Iterator[Strange]:
+# a way, its rate or those of the years, what stands for that in words, and its key
+_Way = tuple[str, Any, str, KeyPath]
+
+
+def _of_more_than_is_dug(
+    priced: Priced, dug: Any, of_mining: str, each: Iterable[_Way]
+) -> Iterator[Strange]:
+    """Ways that get more in their best year than is dug in the best one."""
+    for way, (name, rate, said, key) in zip(priced.ways, each):
+        if dug and rate and np.max(rate) > np.max(dug) * max(way.feed, 1.0):
+            yield Strange(
+                f"{name} takes {rounded(float(np.max(rate)), 6)} tonnes a year, and"
+                f" {rounded(float(np.max(dug)), 6)} are dug",
+                "no more is treated than is dug",
+                f"{of_mining} and {said}, the other way round",
+                key,
+            )
+
+
+def _of_schedule_rates(
+    model: Model, priced: Priced, terms: Mapping[str, Any], rates: Mapping[str, Any]
+) -> Iterator[Strange]:
     """Rates of [schedule] by which the mine takes centuries or days, as of one typed in millions of
     tonnes: of rates by year the largest is looked at."""
     tonnes = model.blocks.tonnes.to_numpy(float)
@@ -483,6 +523,18 @@ def _of_schedule_rates(model: Model, priced: Priced, terms: Mapping[str, Any]) -
         asked += [(f"feed of {n}", told.get(n), feed, "process_rates") for n, feed in of_feeds]
     else:
         asked.append(("ore", terms.get("mill_rate"), feeds[0], "mill_rate"))
+    dug = terms.get("mining_rate") or rates.get("mining_rate")
+    if any(rate for _, rate, _, _ in asked):
+        of_ways = (
+            {**(rates.get("process_rates") or {}), **told}
+            if names
+            else {"the mill": terms.get("mill_rate") or rates.get("mill_rate")}
+        )
+        at = "process_rates" if names else "mill_rate"
+        each: list[_Way] = [
+            (n, rate, f"{at} in [schedule]", ("schedule", at)) for n, rate in of_ways.items()
+        ]
+        yield from _of_more_than_is_dug(priced, dug, "mining_rate in [schedule]", each)
     yield from _of_long_or_short(
         (what, rate and float(np.max(rate)), amount, f"{name} in [schedule]", ("schedule", name))
         for what, rate, amount, name in asked

@@ -24,7 +24,7 @@ from . import toml_lines
 from .shells import factors, series_of
 from .toml_lines import Document
 
-NAME = "study.toml"
+_NAME = "study.toml"
 _RATES = ("mining_rate", "mill_rate", "discount")
 # in place of costs that are wrong, while the other keys are tried
 _NOTHING = {
@@ -110,7 +110,7 @@ def table_found(study_toml: Path, table: Path) -> Iterator[None]:
 
 def path_of(study: Path) -> Path:
     """The study.toml of a study, which is named by its folder or by that file."""
-    return study if study.suffix == ".toml" else study / NAME
+    return study if study.suffix == ".toml" else study / _NAME
 
 
 def read_study_file(study: Path) -> StudyFile:
@@ -345,6 +345,7 @@ def _of_right_keys(
         with errors.part("model"):
             partly.keys = _made("model", TableKeys, right)
     elif name == "economics":
+        has_metals = study_keys.METALS in right
         right.setdefault(study_keys.METALS, [{}])
         for kind in study_keys.LISTS:
             if value_kinds.KINDS[kind].holds(right.get(kind)):
@@ -352,6 +353,10 @@ def _of_right_keys(
                     _right_part(partly, (kind, part, at), wrong)
                     for at, part in enumerate(right[kind])
                 ]
+        if not has_metals:  # of those that processes name nothing is known
+            for part in right.get(study_keys.PROCESSES, []):
+                part.pop("recovery", None)
+                part.pop("payable", None)
         with errors.part("economics"):
             asked = {"mining"} if study_keys.PROCESSES in right else set(_NOTHING)
             partly.economics = economics_of({key: _NOTHING[key] for key in asked} | right)

@@ -41,6 +41,10 @@ _CHANGES: tuple[tuple[str, _Change], ...] = (
     (r";", ","),
     (r"=\s*([A-Za-z_][\w./-]*(?: [\w./-]+)*)\s*(?=[,}\]]|$)", r'= "\1"'),
     (rf"({_NUMBER})\s*%", lambda found: f"{float(found[1]) / 100:.12g}"),
+    (
+        rf"({_NUMBER})\s*(Mt|kt)(?:pa|/(?:y|yr|year|a|jahr|año))?\b",
+        lambda found: _in_tonnes(*found.groups()),
+    ),
     (rf"({_NUMBER})\s*[^\W\d_°]+[^\s,\]}}]*|({_NUMBER})\s*°", lambda found: found[1] or found[2]),
     (
         r"(?<![\d.\w])(\d{1,3})((?:,\d{3})+)(?!\d|,\d)",
@@ -58,6 +62,13 @@ _CHANGES: tuple[tuple[str, _Change], ...] = (
     (r"\s*$", " ]"),
     (r"\s*$", " }"),
 )
+
+
+def _in_tonnes(number: str, unit: str) -> str:
+    """Megatonnes or kilotonnes as a number of tonnes."""
+    return f"{float(number) * {'Mt': 1e6, 'kt': 1e3}[unit]:.12g}"
+
+
 _COMMA = re.compile(
     r"([\w-]+)\s*=\s*([+-]?\d+(?:,\d+)+(?:\.\d+)?)(?=\s*(?:$|[}\]#]|,\s*[}A-Za-z_]))"
 )

@@ -10,7 +10,7 @@ from ..base.errors import Gathered, KeyPath, PlanError, Remedy, toml_spelled
 from ..base.near_words import meant, near_to
 from ..base.typed_numbers import typed_number
 from ..base.units import usual_unit
-from .study_keys import METALS, Key, keys_of
+from .study_keys import METALS, SECTIONS, Key, keys_of
 from .value_kinds import FAR, KINDS, RAMP_KEYS, RAMP_MEANS, has_ramp, is_list, is_number, is_table
 
 _LEAST_PERCENT = 2  # from which on a number in place of a share is taken for percent
@@ -64,7 +64,7 @@ def wrong_in(
         elif name not in known:
             found.append(
                 PlanError(
-                    f"{where} has no key {name!r}{meant(name, known)}",
+                    f"{where} has no key {name!r}{_elsewhere(section, name) or meant(name, known)}",
                     try_this=_renamed(name, value, known, values) or ", ".join(known),
                     key=(*at, name),
                 )
@@ -74,6 +74,12 @@ def wrong_in(
             if error or not known[name].holds(value):
                 found.append(error or _wrong_value(known[name], value, where, (*at, name)))
     return found
+
+
+def _elsewhere(section: str, name: str) -> str:
+    """The section that has this key, as words to add; "" where none has, or this one is meant."""
+    others = [each for each in SECTIONS if each != section and name in keys_of(each)]
+    return f": it is a key of [{others[0]}]" if others and section in SECTIONS else ""
 
 
 def _separated(key: Key, value: Any, where: str, at: KeyPath) -> PlanError | None:
@@ -239,6 +245,10 @@ def _as_may_be(key: Key, value: Any) -> str | None:
         return None
     if key.choices:
         return f"{key.name} = " + " or ".join(map(toml_spelled, key.choices))
+    if key.kind == "process_rates" and is_table(value) and value:
+        usual = tomllib.loads(f"it = {KINDS['rates'].example}")["it"]
+        right = {name: rate if key.holds({name: rate}) else usual for name, rate in value.items()}
+        return f"{key.name} = {toml_spelled(right)}"
     near = _nearest(key, value)
     if near is not None and key.holds(near):
         return f"{key.name} = {toml_spelled(near)}"

@@ -13,7 +13,7 @@ def test_how_far_a_search_is_in_words():
     one = Found(bound=200_000_000, npv=199_000_000, closures=1, filled=1)
     words = "a schedule of 1 period, 0.500% below the bound"
     assert command._words(one) == words
-    words = "a schedule of 2 periods, 0.500% below the bound, the best of 3"
+    words = "a schedule of 2 periods, 0.500% below the best of 3 bounds"
     assert command._words(Found(200, 199, 3, 2)) == words
     assert command._words(Found(None, 199, 0, 6)) == "a schedule of 6 periods, no bound yet"
     assert command._words(Found()) == command._words(Found(bound=200)) == "no schedule yet"

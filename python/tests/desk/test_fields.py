@@ -189,6 +189,14 @@ def test_the_terms_of_a_plan_by_years_are_written(study):
     study.has("schedule", "pushbacks", [0.5, 0.8])
     see.picks(f"{at}.cutoff", "by year")
     see.types(f"{at}.mining_rate", "4e6")
+    see.types(f"{at}.mining_rate", "4e6, 7e6")  # several numbers are those of the years
+    study.has("schedule", "mining_rate", [4e6, 7e6])
+    see.picks(f"{at}.mining_rate.how", "the same each year")
+    study.has("schedule", "mining_rate", 7e6)
+    see.types(f"{at}.mining_rate", "4,5e6")
+    study.has("schedule", "mining_rate", 4.5e6)
+    see.types(f"{at}.mining_rate", "4e6")
+    study.has("schedule", "mining_rate", 4e6)
     see.picks(f"{at}.mining_rate.how", "year by year")
     study.has("schedule", "mining_rate", [4e6])
     see.types(f"{at}.mining_rate", "4e6, 6e6, ")  # whose last comma says nothing

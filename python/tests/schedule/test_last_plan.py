@@ -97,7 +97,8 @@ def test_how_far_the_first_search_is_while_it_runs(tmp_path, monkeypatch):
     with study_lock.turn(folder, words), events.of_study(folder):
         events.event("step", what="the bound", far="a schedule of 3 periods")
         assert overview(folder)["plan"] == ["", "its search runs", far]
-        assert f"plan by years: none yet; {far}" in said(folder)
+        assert "plan by years: none yet; its search runs now: pitplan schedule s" in said(folder)
+        assert said(folder).endswith("the bound: a schedule of 3 periods")
     assert overview(folder)["plan"] is None
 
 

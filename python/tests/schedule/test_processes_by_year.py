@@ -214,11 +214,11 @@ def test_schedule_may_say_rates_of_processes_by_year():
     assert changed == {"mill": 1e5, "leach": pytest.approx([11.0, 22.0])}
     with pytest.raises(PlanError, match="names 'heap', and no process is called so"):
         terms_of({"process_rates": {"heap": 1.0}}, rates, 1.0, [1.0, 1.0])
-    said = r"study.toml: \[schedule\] process_rates of leach has 4 years, and the schedule 3"
+    said = r"\[schedule\] process_rates of leach has 4 years, and the schedule 3"
     with pytest.raises(PlanError, match=said) as error:
         terms_of({"years": 3, "process_rates": {"leach": [1.0] * 4}}, rates, 1.0, [1.0, 1.0])
     assert error.value.key == ("schedule", "process_rates")
-    said = r"study.toml: \[economics\] rate of process mill = 1e\+10 is more than"
+    said = r"\[economics\] rate of process mill = 1e\+10 is more than"
     with pytest.raises(PlanError, match=said) as error:
         terms_of({"years": 3}, {"process_rates": {"mill": 1e10}}, 1.0, [1.0])
     assert error.value.key == ("economics", "processes", "mill", "rate")

@@ -84,7 +84,7 @@ def test_without_a_rate_nothing_limits_that():
         (
             {"mill_rate": [1, 2]},
             RATES,
-            r"^study.toml: \[schedule\] mill_rate = \[1, 2\] tonnes a year: the 1,300 tonnes of feed"
+            r"^\[schedule\] mill_rate = \[1, 2\] tonnes a year: the 1,300 tonnes of feed"
             " of the pit take 651 years",
             ("schedule", "mill_rate"),
         ),

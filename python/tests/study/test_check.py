@@ -7,6 +7,7 @@ import numpy as np
 import pandas as pd
 import pytest
 
+import two_ways
 from mines import table, written_study
 from processes import command, said
 from pitplan.study.check import check
@@ -652,6 +653,16 @@ def test_a_table_that_isn_t_there_is_told_beside_wrong_keys(tmp_path):
     found = check(written_study(tmp_path / "s", table(9, 8, 5, 5), text))
     assert [error.key for error in found.errors] == [("model", "absnt"), ("model", "table")]
     assert found.errors[1].try_this.endswith("/t.csv")
+
+
+def test_metals_that_cant_be_read_are_no_mistake_of_processes(tmp_path):
+    """Which name their recoveries; and a process's own mistake is told beside."""
+    text = two_ways.TEXT.replace("price = 60,", "price = 1,900,").replace("rate = 120e3", "rat = 1")
+    errors = check(two_ways.written(tmp_path / "s", text=text)).errors
+    assert [error.key for error in errors] == [
+        ("economics", "metals"),
+        ("economics", "processes", "leach", "rat"),
+    ]
 
 
 def test_a_wrong_angle_of_a_region_hides_no_region(tmp_path):

@@ -188,8 +188,22 @@ LOOKS = [
         "rates the other way round",
         ("mining_rate = 1e6\nmill_rate = 5e5", "mining_rate = 5e5\nmill_rate = 1e6"),
         None,
-        "no more is milled than is dug",
+        "no more is treated than is dug",
         ("shells", "mill_rate"),
+    ),
+    (
+        "rates of a plan the other way round",
+        ("mill_rate = 5e5", "mill_rate = 5e5\n[schedule]\nmill_rate = [0, 1.2e6]"),
+        None,
+        "the mill takes 1,200,000 tonnes a year, and 1,000,000 are dug",
+        ("schedule", "mill_rate"),
+    ),
+    (
+        "a grade in another unit than its column says",
+        ('grade = "CU"', 'grade = "CU_PPM"'),
+        lambda frame: frame.rename(columns={"CU": "CU_PPM"}),
+        "the column CU_PPM is in ppm by its name, and copper in %",
+        ("economics", "metals", "copper", "grade_unit"),
     ),
     (
         "a rate in million tonnes",

@@ -12,6 +12,8 @@ from slips import STUDY
 NO_TOML = [
     ('by = "SECTOR"', "by = SECTOR", 'by = "SECTOR"'),
     ("mill_rate = 5e5", "mill_rate = 5e5 t/a", "mill_rate = 5e5"),
+    ("mill_rate = 5e5", "mill_rate = 0.5 Mt/a", "mill_rate = 500000"),
+    ("mill_rate = 5e5", "mill_rate = 500 kt", "mill_rate = 500000"),
     ("mining = 2.0", "mining = 2,0", "mining = 2.0"),
     ("mill_rate = 5e5", "mill_rate = 500,000", "mill_rate = 500000"),
     ("discount = 0.08", "discount = 8 %", "discount = 0.08"),
@@ -103,7 +105,7 @@ def test_what_stands_twice_is_told_with_the_first(tmp_path):
     assert [(error.what, error.key) for error in found.errors] == [
         ("line 12: mining stands here again, after line 8", ("economics", "mining")),
         (
-            "[economics] has no key 'mill_rate'; is 'mill' meant?",
+            "[economics] has no key 'mill_rate': it is a key of [shells]",
             ("economics", "mill_rate"),
         ),
     ]

@@ -82,3 +82,16 @@ def test_of_several_rates_the_first_wrong_one_is_named(name, value, told):
 )
 def test_a_rate_may_be_0_in_some_years(name, value):
     assert wrong_in("schedule", {name: value}) == []
+
+
+def test_what_is_tried_of_rates_by_process_keeps_those_that_are_right():
+    (error,) = wrong_in("schedule", {"process_rates": {"mill": [0, 0], "heap leach": 5e5}})
+    right = '{ mill = [15000000.0, 20000000.0], "heap leach" = 500000 }'
+    assert error.try_this == f"process_rates = {right}"
+
+
+def test_a_key_of_another_section_is_told_so():
+    (error,) = wrong_in("shells", {"sink": 4})
+    assert error.what == "[shells] has no key 'sink': it is a key of [schedule]"
+    (error,) = wrong_in("schedule", {"factrs": [1.0]})
+    assert error.what.startswith("[schedule] has no key 'factrs'; there are years, ")

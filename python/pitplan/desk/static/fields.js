@@ -20,6 +20,7 @@ const isTable = v => typeof v === "object" && v !== null && !Array.isArray(v);
 const unitOf = (k, now) => [now].flat().filter(n => n >= 1e4 || n === 0).map(n => `= ${number(n)} `)
   .join("") + k.unit.replace("{currency}", valueOf(["economics", "currency"]) ?? "$");
 const inParts = text => text.split(/;|,\s/.test(text) ? /;|,\s/ : ",");
+const oneOrMore = text => (/[;,]\s+\S/.test(text) ? numbers : value)(text);
 const numbers = text => word(text) && inParts(text.replace(/[;,]\s*$/, "")).map(value);
 /** @param {any} now as `change` has it @param {any} was what stood there for whoever changes it */
 export const set = (path, now, was) => (typeof now === "function" || !same(was, now))
@@ -44,7 +45,6 @@ function select(path, options, key, empty, read = word) {
   return choice(idOf(path), [...(empty === undefined ? [] : [["", empty]]), ...all], now,
     v => set(path, read(v)), path.at(-1) === key.name && key.label);
 }
-
 const METALS = ["economics", "metals"];
 /** What the keys of a table may be, by what stands there and elsewhere. */
 const NAMES = {
@@ -100,7 +100,6 @@ function form(path, key, schema = key.schema) {
   return schema.maxItems ? count.map(i => form([...path, i], key, items))
     : input(path, key, { width: 34, shown: valueOf(path)?.join?.(", "), read: numbers });
 }
-
 /** A value of one of several forms. @param {any[]} path @param {Key} key @param {any[]} ways */
 function several(path, key, ways) {
   const now = valueOf(path);
@@ -108,7 +107,8 @@ function several(path, key, ways) {
   if (now === undefined && which.required) return form(path, key, which);
   return amounts(choice(idOf([...path, "how"]), ways.map(way => way.title), which.title,
     title => set(path, at => start(ways.find(way => way.title === title), at(path), key, at)),
-    "how it is told"), form(path, key, which));
+    "how it is told"), which.type === "number" ? input(path, key, { read: oneOrMore })
+    : form(path, key, which));
 }
 
 /** A table: a form for each key that it has, and a button for each that it may have besides. */

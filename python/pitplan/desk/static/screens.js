@@ -223,8 +223,8 @@ const pits = (part = "run") => [h("div.tabs", Object.entries(PARTS).map(([key, [
   `part.${key}`, ["pits", key], label, key === part))), PARTS[part]?.[1]() ?? ""];
 /** What stands in place of a screen that needs pits. */
 const needed = () => (!D.study.state.there || D.study.state.old) && card(null, tip(
-  "This needs proved pits: ", h("a", { href: link(D.study.name, "pits") },
-    "build, and find the pits"), "."));
+  `${D.study.state.old ? D.study.state.said[1] : "This needs proved pits"}: `,
+  h("a", { href: link(D.study.name, "pits") }, "build, and find the pits"), "."));
 const wanted = { factors: [], width: null };
 function pushbacks() {
   const factors = [...wanted.factors].sort((a, b) => a - b);
