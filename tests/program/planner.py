@@ -45,7 +45,12 @@ def installed(top):
         "stdout": subprocess.DEVNULL,
         "env": {**os.environ, "DEBIAN_FRONTEND": "noninteractive"},
     }
-    if subprocess.run(command, **quiet).returncode:
+    print(
+        "for the tests of pitplan Debian's packages are being installed: %d" % len(lacking),
+        flush=True,
+    )
+    # of a new machine apt-get knows no package yet
+    if subprocess.run(command, stderr=subprocess.DEVNULL, **quiet).returncode:
         subprocess.run(["apt-get", "update"], **quiet)
         subprocess.run(command, **quiet)
     lacking = missing(lacking)
