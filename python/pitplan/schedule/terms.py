@@ -10,7 +10,7 @@ from decimal import Decimal, localcontext
 from typing import Any
 
 from ..base.amounts import THOUSAND, rounding_of
-from ..base.errors import Gathered, PlanError, about
+from ..base.errors import Gathered, PlanError, about, toml_spelled
 from ..base.near_words import meant
 from ..base.units_shown import counted, share_text
 from ..study.shells import thousandths
@@ -230,7 +230,8 @@ def process_rates_of(values: Mapping[str, Any], rates: Mapping[str, Any]) -> dic
         if name not in own:
             at = ("schedule", "process_rates")
             said = f"[schedule] process_rates names {name!r}, and no process is called so"
-            better = ", ".join(own) or "mill_rate, of a study without [[economics.processes]]"
+            names = (each if each.isidentifier() else toml_spelled(each) for each in own)
+            better = ", ".join(names) or "mill_rate, of a study without [[economics.processes]]"
             raise PlanError(said + meant(name, own), try_this=better, key=at)
     return {**own, **told}
 

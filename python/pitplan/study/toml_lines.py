@@ -50,6 +50,10 @@ _CHANGES: tuple[tuple[str, _Change], ...] = (
         r"(?<![\d.\w])(\d{1,3})((?:,\d{3})+)(?!\d|,\d)",
         lambda found: found[1] + found[2].replace(",", ""),
     ),
+    (
+        r"(?<![\d.\w])(\d{1,3})((?:\.\d{3}){2,})(?!\d|\.\d)",
+        lambda found: found[1] + found[2].replace(".", ""),
+    ),
     (r"(?<![\d.\w])(\d+),(\d+)(?!\d|,\d)", r"\1.\2"),
     (r"(?<![\d.])\.(\d)", r"0.\1"),
     (r"(\d)\.(?!\d)", r"\1.0"),

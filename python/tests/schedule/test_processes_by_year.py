@@ -212,6 +212,10 @@ def test_schedule_may_say_rates_of_processes_by_year():
     (one,) = vary.changes_of(["rate:leach=10"])
     changed = _changed_terms(told, rates, one)["process_rates"]
     assert changed == {"mill": 1e5, "leach": pytest.approx([11.0, 22.0])}
+    with pytest.raises(PlanError) as error:
+        blank = {"process_rates": {"mill": 1e5, "heap leach": None}}
+        terms_of({"process_rates": {"leach": 1.0}}, blank, 1.0, [1.0, 1.0])
+    assert error.value.try_this == 'mill, "heap leach"'
     with pytest.raises(PlanError, match="names 'heap', and no process is called so"):
         terms_of({"process_rates": {"heap": 1.0}}, rates, 1.0, [1.0, 1.0])
     said = r"\[schedule\] process_rates of leach has 4 years, and the schedule 3"

@@ -14,6 +14,7 @@ NO_TOML = [
     ("mill_rate = 5e5", "mill_rate = 5e5 t/a", "mill_rate = 5e5"),
     ("mill_rate = 5e5", "mill_rate = 0.5 Mt/a", "mill_rate = 500000"),
     ("mill_rate = 5e5", "mill_rate = 500 kt", "mill_rate = 500000"),
+    ("mining_rate = 1e6", "mining_rate = 1.000.000", "mining_rate = 1000000"),
     ("mining = 2.0", "mining = 2,0", "mining = 2.0"),
     ("mill_rate = 5e5", "mill_rate = 500,000", "mill_rate = 500000"),
     ("discount = 0.08", "discount = 8 %", "discount = 0.08"),

@@ -86,7 +86,6 @@ function start(schema, now, key, at) {
   if (type !== "array") return type === "string" ? String(one) : one;
   return items.type === "array" ? [0, 90, 180, 270].map(bearing => [bearing, one]) : [one];
 }
-
 /** A form for what stands at a path. @param {any[]} path @param {Key} key @param {any} schema */
 function form(path, key, schema = key.schema) {
   const { type, items = {}, properties, additionalProperties, oneOf } = schema;
@@ -106,11 +105,11 @@ function several(path, key, ways) {
   const which = ways.find(way => fits(now ?? key.default, way)) ?? ways[0];
   if (now === undefined && which.required) return form(path, key, which);
   return amounts(choice(idOf([...path, "how"]), ways.map(way => way.title), which.title,
-    title => set(path, at => start(ways.find(way => way.title === title), at(path), key, at)),
+    title => set(path, at => start(ways.find(way => way.title === title), at(path)
+      ?? at(["shells", key.name]), key, at)),
     "how it is told"), which.type === "number" ? input(path, key, { read: oneOrMore })
     : form(path, key, which));
 }
-
 /** A table: a form for each key that it has, and a button for each that it may have besides. */
 function parts(path, key, schema, end = () => set(path, null)) {
   const { properties, required = [], additionalProperties: each } = schema;
@@ -126,10 +125,10 @@ function parts(path, key, schema, end = () => set(path, null)) {
     form([...path, name], key, of(name)), !required.includes(name) && small("×",
       () => (has.length > 1 ? set([...path, name], null) : end()), `take ${name} out`)])),
   more.filter(name => !has.includes(name)).map(name => small(`+ ${name}`,
-    () => set([...path, name], at => start(of(name), at(path), key, at)), key.help)),
+    () => set([...path, name], at => start(of(name), at(path) ?? at(["economics", "processes"])
+      ?.find(process => process.name === name)?.rate, key, at)), key.help)),
   isWhole && out(path, `take ${key.label} out`));
 }
-
 /** Bearings, each with its degrees. @param {any[]} path @param {Key} key @param {any} items */
 function bearings(path, key, items) {
   const now = valueOf(path);
@@ -332,8 +331,9 @@ function field(k) {
 }
 
 /** @param {string} section @param {(name: string) => boolean} isOne @returns {any[]} its fields */
-export const fields = (section, isOne = () => true) => keysIn(section)
-  .filter(k => isOne(k.name)).map(field);
+export const fields = (section, isOne = () => true) => keysIn(section).filter(k => isOne(k.name)
+  && (k.name !== "mill_rate" || !listNow("processes").length || valueOf([section, k.name])))
+  .map(field);
 
 /** What is wrong here and has no field, where what has one stands, and what is wrong elsewhere. */
 export function banner() {
