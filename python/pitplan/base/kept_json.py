@@ -41,7 +41,7 @@ def read(path: Path, kinds: Mapping[str, Holds], try_this: str) -> dict[str, Any
     FileNotFoundError, NotADirectoryError
         Where it isn't there.
     Damaged
-        Where it is no JSON, or a folder, or a value isn't one that its key may have.
+        Where it is no JSON, or a value isn't one that its key may have.
     """
 
     def refused(what: str) -> Damaged:
@@ -51,10 +51,6 @@ def read(path: Path, kinds: Mapping[str, Holds], try_this: str) -> dict[str, Any
         found = json.loads(path.read_text("utf-8"), parse_constant=_no_constant)
     except (ValueError, RecursionError):  # no JSON, or no text
         raise refused("") from None
-    except IsADirectoryError:
-        raise Damaged(
-            f"{path} is a folder, and has to be a file", try_this=f"rm -r {path}"
-        ) from None
     if not isinstance(found, dict):
         raise refused("")
     for key, holds in kinds.items():

@@ -109,8 +109,11 @@ def last_plan(
         Where ``schedule.json`` isn't one that `pitplan schedule` writes.
     """
     again = f"{command('schedule', study, '--minutes', '0')}, which writes it anew"
+    path = study / "out" / "schedule.json"
+    if path.is_dir():
+        raise kept_json.Damaged(f"{path} is a folder, and has to be a file", try_this=f"rm -r {path}")
     try:
-        found = kept_json.read(study / "out" / "schedule.json", _KINDS, again)
+        found = kept_json.read(path, _KINDS, again)
     except (FileNotFoundError, NotADirectoryError):
         return None
     return _LastPlan(
