@@ -6,6 +6,7 @@ pit is looked at by tests/program/plain_check.py, and a written one is checked b
 """
 import os
 import random
+import re
 import shutil
 import subprocess
 import tempfile
@@ -60,6 +61,9 @@ WORDS = [
     b"\r",
     b"\0",
 ]
+
+
+OF_PERIODS = ("uses", "periods", "pit")  # options of the mine of blocks and periods
 
 
 def seeds():
@@ -142,18 +146,25 @@ def plainly(words, folder, certificate):
 
 
 def wrong_pit(program, words, folder, output):
-    """What is wrong with a certificate that was accepted or written, or None."""
+    """What is wrong with a certificate that was accepted or written, or None. One of blocks and periods is a bound's."""
     if words[0] == "solve":
         (folder / "written.cert").write_bytes(output)
+        command = "bound" if named(words, "periods") else "check"
         model = [
             word
-            for option in ("prec", "upit", "settings", "blocks")
+            for option in ("prec", "upit", "settings", "blocks", *OF_PERIODS)
             if named(words, option)
             for word in ("--" + option, named(words, option))
         ]
-        status, output, _ = answer_of(program, ["check", *model, "written.cert"], folder)
+        status, output, errors = answer_of(program, [command, *model, "written.cert"], folder)
         if status != 0:
-            return "its certificate is answered with %r" % output
+            return "its certificate is answered with %r, %r" % (output, errors[:200])
+        if command == "bound":
+            return (
+                None
+                if re.fullmatch(rb"BOUND -?\d+(\.\d+)?\n", output)
+                else "%r is no bound" % output
+            )
         certificate = (folder / "written.cert").read_bytes()
     else:
         certificate = (folder / words[-1]).read_bytes()
