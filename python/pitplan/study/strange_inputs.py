@@ -46,7 +46,7 @@ _EVERYWHERE = 0.95  # the share of the rock from which on a formula keeps nearly
 _TIMES_USUAL = 8  # how many times a metal's usual price a price may be, or its share
 _LEAST_SELLING, _MOST_SELLING = 5e-4, 0.6  # of the price
 _LONGEST, _SHORTEST = 200, 0.01  # years that a mine takes
-_DEAREST = 0.3  # a year, that a mine's money is discounted by
+_CHEAPEST, _DEAREST = 0.02, 0.3  # a year, that a mine's money is discounted by
 # currencies in which a metal's usual price is about its number
 _DOLLARS = re.compile(r"[A-Z]{0,3}\$|USD|AUD|CAD|EUR|GBP|€|£")
 _DEPTHS = ("depth", "prof", "profundidad", "profundidade", "profondeur", "tiefe", "teufe")
@@ -457,6 +457,13 @@ def of_rates(model: Model, priced: Priced, rates: Mapping[str, Any]) -> Iterator
             f"discount = {discount:g} is {100 * discount:g} % a year",
             "it is a share, and few mines count with more than 20 %",
             f"discount = {discount / 10:g} in [shells], if {10 * discount:g} % is meant",
+            ("shells", "discount"),
+        )
+    if discount and discount < _CHEAPEST:
+        yield Strange(
+            f"discount = {discount:g} is {100 * discount:g} % a year",
+            "it is a share, and few mines count with less than 3 %",
+            f"discount = {10 * discount:g} in [shells], if {1000 * discount:g} % is meant",
             ("shells", "discount"),
         )
     tonnes = model.blocks.tonnes.to_numpy(float)

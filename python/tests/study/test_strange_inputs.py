@@ -206,6 +206,13 @@ LOOKS = [
         ("economics", "metals", "copper", "grade_unit"),
     ),
     (
+        "a discount of a place too little",
+        ("discount = 0.08", "discount = 0.008"),
+        None,
+        "discount = 0.008 is 0.8 % a year",
+        ("shells", "discount"),
+    ),
+    (
         "a rate in million tonnes",
         ("mill_rate = 5e5", "mill_rate = 0.5"),
         None,
