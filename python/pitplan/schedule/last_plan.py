@@ -111,7 +111,9 @@ def last_plan(
     again = f"{command('schedule', study, '--minutes', '0')}, which writes it anew"
     path = study / "out" / "schedule.json"
     if path.is_dir():
-        raise kept_json.Damaged(f"{path} is a folder, and has to be a file", try_this=f"rm -r {path}")
+        raise kept_json.Damaged(
+            f"{path} is a folder, and has to be a file", try_this=f"rm -r {path}"
+        )
     try:
         found = kept_json.read(path, _KINDS, again)
     except (FileNotFoundError, NotADirectoryError):

@@ -65,15 +65,20 @@ class Opened:
 
 
 def test_each_key_has_a_field(study):
-    study.goes("money", "Nothing looks wrong")
-    study.press("economics.processes", "+ a way to treat a block")
-    study.browser.there("[id='i.economics.processes.0.name']")
+    """The rate of a mill has one until there are processes, each of which has its own."""
     shown, listed = set(), set()
-    for screen in SCREENS:
-        study.goes(screen, "")
-        study.browser.there("#main .field")
-        shown |= set(study.browser.script(SHOWN))
-        listed |= set(study.browser.script(LISTED))
+    for has_processes in (False, True):
+        if has_processes:
+            study.goes("money", "Nothing looks wrong")
+            study.press("economics.processes", "+ a way to treat a block")
+            study.browser.there("[id='i.economics.processes.0.name']")
+        for screen in SCREENS:
+            study.goes(screen, "")
+            study.browser.there("#main .field")
+            shown |= set(study.browser.script(SHOWN))
+            listed |= set(study.browser.script(LISTED))
+            if has_processes and screen == "pits/years":
+                assert "f.schedule.mill_rate" not in study.browser.script(SHOWN)
     for key in KEYS:
         if (key.section, key.name) in WITHOUT_A_FIELD:
             continue
