@@ -4,6 +4,7 @@ from __future__ import annotations
 
 import hashlib
 import json
+import math
 import os
 from collections.abc import Iterable, Iterator, Mapping, Sequence
 from contextlib import contextmanager
@@ -588,10 +589,12 @@ def _are_from_to_by(shares: Sequence[float]) -> bool:
     """Whether three factors that don't ascend can be meant as the first, the last and the step of a
     series.
 
-    >>> _are_from_to_by([0.3, 1.2, 0.05]), _are_from_to_by([0.5, 0.8, 0.2])
-    (True, False)
+    >>> [_are_from_to_by([*two, step]) for two, step in (((0.3, 1.2), 0.05), ((0.5, 0.8), 0.2))]
+    [True, False]
+    >>> _are_from_to_by([0.6, 1.0, 1e-320])  # more steps than a float counts
+    False
     """
     if len(shares) != 3 or not 0 < shares[2] < shares[0] < shares[1]:
         return False
     steps = (shares[1] - shares[0]) / shares[2]
-    return round(steps) >= 2 and abs(steps - round(steps)) < 1e-6
+    return math.isfinite(steps) and round(steps) >= 2 and abs(steps - round(steps)) < 1e-6
