@@ -302,14 +302,14 @@ def _of_grade_units(model: Model, economics: Economics) -> Iterator[Strange]:
         named = unit_of(metal.grade) if metal.grade in model.blocks else None
         units = {named, metal.grade_unit}
         if named and len(units) > 1 and not units <= set(_ONE_IN_A_MILLION):
-            key: KeyPath = ("economics", METALS, metal.name, "grade_unit")
+            better = Remedy(("economics", METALS, metal.name, "grade_unit"), named)
             yield Strange(
                 f"the column {metal.grade} is in {named} by its name, and {metal.name} in"
                 f" {metal.grade_unit}",
                 "",
-                str(Remedy(key, named)),
-                key,
-                Remedy(key, named),
+                str(better),
+                better.key,
+                better,
             )
 
 

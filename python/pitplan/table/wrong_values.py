@@ -62,13 +62,15 @@ def wrong_in(
             said = f"{where} {name}: {_NO_LAW[name]}"
             found.append(PlanError(said, try_this=f"leave {name} out", key=(*at, name)))
         elif name not in known:
-            found.append(
-                PlanError(
-                    f"{where} has no key {name!r}{_elsewhere(section, name) or meant(name, known)}",
-                    try_this=_renamed(name, value, known, values) or ", ".join(known),
-                    key=(*at, name),
-                )
+            other = _section_with(name, section)
+            more = f": it is a key of [{other}]" if other else meant(name, known)
+            better = (
+                f"{name} = {toml_spelled(value)} in [{other}]"
+                if other
+                else _renamed(name, value, known, values) or ", ".join(known)
             )
+            said = f"{where} has no key {name!r}{more}"
+            found.append(PlanError(said, try_this=better, key=(*at, name)))
         elif value is not None:
             error = _separated(known[name], value, where, (*at, name))
             if error or not known[name].holds(value):
@@ -76,10 +78,12 @@ def wrong_in(
     return found
 
 
-def _elsewhere(section: str, name: str) -> str:
-    """The section that has this key, as words to add; "" where none has, or this one is meant."""
-    others = [each for each in SECTIONS if each != section and name in keys_of(each)]
-    return f": it is a key of [{others[0]}]" if others and section in SECTIONS else ""
+def _section_with(name: str, section: str) -> str | None:
+    """The first other section that has a key; None where none has, and of keys that stand in a metal
+    or a process."""
+    if section not in SECTIONS:
+        return None
+    return next((each for each in SECTIONS if name in keys_of(each)), None)
 
 
 def _separated(key: Key, value: Any, where: str, at: KeyPath) -> PlanError | None:
