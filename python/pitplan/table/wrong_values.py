@@ -65,7 +65,7 @@ def wrong_in(
             other = _section_with(name, section)
             more = f": it is a key of [{other}]" if other else meant(name, known)
             better = (
-                f"{name} = {toml_spelled(value)} in [{other}]"
+                f"put it into [{other}]"
                 if other
                 else _renamed(name, value, known, values) or ", ".join(known)
             )

@@ -93,6 +93,6 @@ def test_what_is_tried_of_rates_by_process_keeps_those_that_are_right():
 def test_a_key_of_another_section_is_told_so():
     (error,) = wrong_in("shells", {"sink": 4})
     assert error.what == "[shells] has no key 'sink': it is a key of [schedule]"
-    assert error.try_this == "sink = 4 in [schedule]"
+    assert error.try_this == "put it into [schedule]"
     (error,) = wrong_in("schedule", {"factrs": [1.0]})
     assert error.what.startswith("[schedule] has no key 'factrs'; there are years, ")
