@@ -8,7 +8,8 @@ the lines that the kit's edits have, and one that names the function, which the 
     old: TEXT THAT STANDS EXACTLY ONCE IN THAT FILE
     new: TEXT IN ITS PLACE
 
-The function, and what it calls in its crate, is checked from nothing over the libraries as they were proved. An edit
+The function, and what it calls in its crate, is checked from nothing over the libraries as they were proved (a planted
+edit's over what the checks of its crate before it have proved of the functions that no edit changes). An edit
 that is proved there is tried on the whole crate: it is refused only if the prover refuses that. Edits of several functions
 of a crate are tried by one check first (edit_groups.py), and by themselves where that leaves no goal of theirs open.
 """
@@ -17,7 +18,8 @@ import shutil
 import subprocess
 import sys
 import tempfile
-from concurrent.futures import ThreadPoolExecutor, as_completed
+import threading
+from concurrent.futures import ThreadPoolExecutor
 from contextlib import contextmanager
 from pathlib import Path
 
@@ -46,6 +48,8 @@ class BadEdit(ValueError):
 
 class Edit:
     """An edit of a crate: its name, the function that it names, and the texts that it changes, by their path in the crate."""
+
+    work = None  # a folder from which its checks take what others of its crate proved; without one they begin from nothing
 
     def __init__(self, crate, name, text):
         self.crate, self.label, self.text = crate, "%s/%s" % (crate.name, name), text
@@ -146,6 +150,7 @@ def library(crate):
 
 def checked(edit, texts, named):
     """What a check of the crate with these texts in place of its own says: its status and its lines. Where no functions are named, of all of it."""
+    over = ["--incremental", str(edit.work)] if edit.work else []
     with tempfile.TemporaryDirectory(prefix="pit-edit-") as room:
         for part in PARTS:
             if (edit.crate.folder / part).is_dir():
@@ -154,7 +159,7 @@ def checked(edit, texts, named):
             (Path(room) / path).write_text(text, encoding="utf-8")
         only = [word for name in named for word in ("--only", name)]
         ran = subprocess.run(
-            [*words_for(edit.crate), *only],
+            [*words_for(edit.crate), *over, *only],
             cwd=room,
             stdin=subprocess.DEVNULL,
             stdout=subprocess.PIPE,
@@ -279,27 +284,62 @@ def as_found(_edit, found):
     return found
 
 
-def try_each(edits, verdict_of=verdict, confirmed=as_found):
+def lists_of(groups, many):
+    """The groups of each crate in a list, or in several lists where there are fewer crates than `many`; the longest first."""
+    of_crate = {}
+    for group in groups:
+        of_crate.setdefault(group[0].crate.name, []).append(group)
+    parts = max(1, many // max(1, len(of_crate)))
+    lists = [those[first::parts] for those in of_crate.values() for first in range(parts)]
+    return sorted(filter(None, lists), key=len, reverse=True)
+
+
+@contextmanager
+def work_for(edits):
+    """Gives these edits of one crate a folder in which each check leaves what it proved to the next, while it lasts."""
+    with tempfile.TemporaryDirectory(prefix="pit-edits-", ignore_cleanup_errors=True) as folder:
+        for edit in edits:
+            edit.work = folder
+        yield
+
+
+def in_turn(groups, tell, verdict_of, confirmed):
+    """Tries groups of edits one after the other, tells each verdict, and gives how many edits were refused."""
+    refused = 0
+    for group in groups:
+        for edit, found in zip(group, verdicts(group, verdict_of)):
+            is_refused, said = confirmed(edit, found)
+            tell(said)
+            refused += is_refused
+    return refused
+
+
+def try_each(edits, verdict_of=verdict, confirmed=as_found, keeps_work=False):
     """Tries these edits over the libraries that were built, and gives how many were refused and how many not.
 
-    `confirmed` looks again at what was found of each edit.
+    `confirmed` looks again at what was found of each edit. Where work is kept, the checks of a crate run one after the
+    other, and each takes from those before it what they proved of the functions that no edit changes.
     """
+    printing = threading.Lock()
 
-    def of_group(group):
-        return [confirmed(*found) for found in zip(group, verdicts(group, verdict_of))]
+    def tell(said):
+        with printing:
+            print(said, flush=True)
 
-    refused = 0
+    def of_list(groups):
+        if not keeps_work:
+            return in_turn(groups, tell, verdict_of, confirmed)
+        with work_for([edit for group in groups for edit in group]):
+            return in_turn(groups, tell, verdict_of, confirmed)
+
     groups = edit_groups.groups_of(sorted(edits, key=lambda it: -it.crate.lines()))
-    print(
+    tell(
         "%d edits, by %d check%s, and by one of its own where that shows nothing"
-        % (len(edits), len(groups), "s" if len(groups) != 1 else ""),
-        flush=True,
+        % (len(edits), len(groups), "s" if len(groups) != 1 else "")
     )
+    lists = lists_of(groups, processes()) if keeps_work else [[group] for group in groups]
     with ThreadPoolExecutor(processes()) as pool:
-        for done in as_completed([pool.submit(of_group, group) for group in groups]):
-            for is_refused, said in done.result():
-                print(said, flush=True)
-                refused += is_refused
+        refused = sum(pool.map(of_list, lists))
     return refused, len(edits) - refused
 
 

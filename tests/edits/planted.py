@@ -65,9 +65,9 @@ def verdict(edit):
     """Whether the edit is refused, and what to say of it. Refused for a name alone counts, and is told."""
     is_refused, said = must_fail.verdict(edit)
     if not is_refused and NOBODY in said and "# function: " not in edit.text:
-        is_refused, said = must_fail.verdict(
-            Whole(edit.crate, edit.label.partition("/")[2], edit.text)
-        )
+        whole = Whole(edit.crate, edit.label.partition("/")[2], edit.text)
+        whole.work = edit.work
+        is_refused, said = must_fail.verdict(whole)
     if not is_refused and "cannot be tried: it is refused for a name alone" in said:
         return True, "%s: %s, which says little" % (edit.label, FOR_NAME)
     return is_refused, said
@@ -125,4 +125,4 @@ def confirmed(edit, found):
 
 def try_all(names):
     """Tries the planted edits of these names, CRATE or CRATE/EDIT, or all, and gives how many were refused and how many not."""
-    return must_fail.try_each(wanted_edits(names), verdict, confirmed)
+    return must_fail.try_each(wanted_edits(names), verdict, confirmed, keeps_work=True)

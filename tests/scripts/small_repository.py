@@ -6,7 +6,9 @@ import shutil
 import subprocess
 import sys
 import tempfile
+from contextlib import redirect_stdout
 from pathlib import Path
+from unittest.mock import patch
 
 import files_page
 import manual
@@ -813,6 +815,54 @@ def goals_are_of_their_function(top):
     return not wrong, "\n".join(wrong)
 
 
+class OfCrate:
+    """An edit as `must_fail.try_each` sees it, of which nothing is known but its crate."""
+
+    def __init__(self, name):
+        self.crate, self.label, self.work = self, name, None
+        self.name = name
+
+    def lines(self):
+        return 1
+
+    def changes(self):
+        raise must_fail.BadEdit("it is tried by itself")
+
+
+def folders_of(names, processes, **how):
+    """The folders over which edits of crates with these names are tried, by crate, each with whether it was there; and the counts."""
+    found = {}
+
+    def verdict_of(edit):
+        folder = Path(edit.work) if edit.work else None
+        found.setdefault(edit.name, []).append((folder, bool(folder and folder.is_dir())))
+        return True, edit.label
+
+    with patch.object(must_fail, "processes", lambda: processes):
+        with open(os.devnull, "w") as nowhere, redirect_stdout(nowhere):
+            counts = must_fail.try_each(list(map(OfCrate, names)), verdict_of, **how)
+    return found, counts
+
+
+def work_is_kept_within_a_crate(top):
+    """Whether the edits of a crate are tried over one folder, which is gone in the end, and those of another over another; of
+    one crate over as many as there are processes."""
+    kept, counts = folders_of("abcdeabcde", 4, keeps_work=True)
+    alone, _ = folders_of("aaaa", 2, keeps_work=True)
+    without, _ = folders_of("a", 4)
+    folders = [{folder for folder, _ in those} for those in kept.values()]
+    well = (
+        counts == (10, 0)
+        and [len(those) for those in folders] == [1] * 5
+        and len(set.union(*folders)) == 5
+        and all(there for those in kept.values() for _, there in those)
+        and not any(folder.exists() for those in folders for folder in those)
+        and len({folder for folder, _ in alone["a"]}) == 2
+        and without == {"a": [(None, False)]}
+    )
+    return well, "%s\n%s\n%s" % (kept, alone, without)
+
+
 OF_THIS_TREE = [
     version_is_up_to_date,
     pages_are_right,
@@ -822,6 +872,7 @@ OF_THIS_TREE = [
     imports_are_right,
     refusals_are_read,
     goals_are_of_their_function,
+    work_is_kept_within_a_crate,
 ]
 
 
