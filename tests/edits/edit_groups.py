@@ -2,7 +2,8 @@
 
 A function is proved against the contracts of what it calls, and not against their bodies. So a goal that is left open in
 a function is open because of the edit of that function, whatever the bodies of others are. Of a function that calls one
-without a proof the prover says that, and leaves no goal of it open; scripts/small_repository.py tests it.
+without a proof the prover says that, and leaves no goal of it open (scripts/small_repository.py tests it): so no function
+of a group calls another of it, as far as their texts tell.
 """
 import re
 from pathlib import Path
@@ -44,6 +45,38 @@ def body_of(edit):
     return Body(path, found.path) if begins >= found.body and named == [found.name] else None
 
 
+def text_of(edit, body):
+    """The text of the function whose body an edit changes."""
+    text = (edit.crate.folder / body.file).read_text(encoding="utf-8")
+    lines = functions.lines_of(text, body.path, functions.module_of(Path(body.file)))
+    return "\n".join(text.split("\n")[lines.start - 1 : lines.stop - 1])
+
+
+def calls(text, body):
+    """Whether the text of a function seems to call the one of this body."""
+    return re.search(r"\b%s(?:::<[^(]*>)?\(" % re.escape(body.path.rpartition("::")[2]), text)
+
+
+class Group:
+    """Edits of a crate that one check tries: of functions of which none calls another."""
+
+    def __init__(self, crate):
+        self.crate, self.edits, self.bodies = crate, [], []
+
+    def takes(self, edit, body, text):
+        """Whether the edit of this body may come to them."""
+        return (
+            self.crate == edit.crate.name
+            and len(self.edits) < MOST
+            and all(body != other for other, _ in self.bodies)
+            and not any(calls(text, other) or calls(its, body) for other, its in self.bodies)
+        )
+
+    def add(self, edit, body, text):
+        self.edits.append(edit)
+        self.bodies.append((body, text))
+
+
 def groups_of(edits):
     """The edits in groups, at most eight of one crate in each; one that changes more than a body is a group by itself."""
     alone, groups = [], []
@@ -55,19 +88,13 @@ def groups_of(edits):
         if body is None:
             alone.append([edit])
             continue
-        takes = (
-            group
-            for crate, group in groups
-            if crate == edit.crate.name
-            and len(group) < MOST
-            and all(body != other for other, _ in group)
-        )
-        group = next(takes, None)
+        text = text_of(edit, body)
+        group = next((group for group in groups if group.takes(edit, body, text)), None)
         if group is None:
-            groups.append((edit.crate.name, [(body, edit)]))
-        else:
-            group.append((body, edit))
-    return [[edit for _, edit in group] for _, group in groups] + alone
+            group = Group(edit.crate.name)
+            groups.append(group)
+        group.add(edit, body, text)
+    return [group.edits for group in groups] + alone
 
 
 def goal_of(edit, texts, goals):

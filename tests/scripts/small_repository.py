@@ -217,25 +217,38 @@ def edits_are_tried_by_their_function(tree):
     )
 
 
+# Tries the edits of `small` as if no function called another.
+BY_ONE_CHECK = """import sys
+sys.path[:0] = ["tools", "tests"]
+from edits import edit_groups, must_fail
+edit_groups.calls = lambda text, body: False
+print("%d passed, %d failed" % must_fail.try_all(["small"]))
+"""
+
+
 def edits_of_several_functions_are_tried_by_one_check(tree):
-    """Each by the goals of its own function: what is harmless isn't refused for what it calls."""
+    """Where none calls another; and where one does that nothing in its text tells of, each by the goals of its own function:
+    what is harmless isn't refused for what it calls."""
     for name, text in {
         "of_next": NEXT + REFUSED,
         "harmless": OF_SECOND,
         "of_before": OF_BEFORE,
     }.items():
         write(tree, "small/edits/%s.edit" % name, text)
-    status, said = ran(tree, "tests/run", "--edits", "small")
+    _, apart = ran(tree, "tests/run", "--edits", "small")
+    _, together = ran(tree, sys.executable, "-c", BY_ONE_CHECK)
     wanted = [
-        "3 edits, by 1 check",
         "small/of_next: refused: note: src/lib.rt:7",
         "small/of_before: refused: note: src/lib.rt:2",
         "small/harmless: ACCEPTED",
     ]
     shutil.rmtree(tree / "crates/small/edits")
     return (
-        status == 1 and all(it in said for it in wanted) and said.endswith("2 passed, 1 failed\n"),
-        said,
+        "3 edits, by 2 checks" in apart
+        and "3 edits, by 1 check," in together
+        and all(it in said for it in wanted for said in (apart, together))
+        and all(said.endswith("2 passed, 1 failed\n") for said in (apart, together)),
+        apart + together,
     )
 
 
