@@ -73,6 +73,9 @@ def basis_of(model: str, values: Mapping[str, Any], rates: Mapping[str, Any]) ->
     """What ``schedule.json`` says of what its plan rests on: a digest of the model's key, the values
     of [schedule], and the rates that [shells] and processes give where it has none of its own."""
     others = {name: rate for name, rate in rates.items() if values.get(name) is None}
+    told, own = values.get("process_rates") or {}, rates.get("process_rates") or {}
+    if rest := {name: rate for name, rate in own.items() if name not in told}:
+        others["process_rates"] = rest
     text = json.dumps([model, _plain(values), _plain(others)], sort_keys=True, default=str)
     return {"basis": hashlib.sha256(text.encode()).hexdigest()}
 

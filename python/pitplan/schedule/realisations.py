@@ -110,6 +110,7 @@ def prepare(
             "years": terms.periods // terms.per_year,
             "panel": 1,
             "pushbacks": None,
+            "lead": 0,
         },
         "rates": rates,
         "gap": gap,

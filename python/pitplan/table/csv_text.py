@@ -423,8 +423,16 @@ def rows_about(path: Path, row: int, encoding: str, most: int) -> list[tuple[int
         for number, line in zip(range(1, row + 2), file):
             if number == 1 or number >= row - 1:
                 text = line.decode(dialect.encoding, "replace").rstrip("\r\n")
-                found.append((number, text.split(dialect.separator)[:most]))
+                found.append((number, _cells_of(text, dialect.separator)[:most]))
     return found
+
+
+def _cells_of(text: str, separator: str) -> list[str]:
+    """The cells of a line, of which one in quotes may have the separator; one that is no record is cut
+    at each."""
+    with suppress(csv.Error):
+        return next(csv.reader([text], delimiter=separator, skipinitialspace=True), [])
+    return text.split(separator)
 
 
 def refuse_doubled(names: Sequence[str], path: object) -> None:

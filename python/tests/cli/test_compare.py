@@ -1,7 +1,9 @@
 """The command `compare`."""
 import json
+import re
 
 import pandas as pd
+import pytest
 
 import pitplan as pp
 from designs import HALVES, HALVES_TOML
@@ -22,6 +24,20 @@ def test_the_command_ends_with_status_1_where_a_design_digs_what_may_not_be_dug(
     assert "CLOSED" in shut.stdout, shut.stderr
     assert "look: the design digs 1 block that forbid keeps" in shut.stdout
     assert "so the status is 1" in shut.stdout
+
+
+def rock_and_ore(blocks):
+    """The tonnes of some blocks, and of those that pay for their treatment at the full price."""
+    brings = (blocks.TONNES * blocks.CU / 100 * 0.85 * 8500).round()
+    treating = (blocks.TONNES * blocks.ROCK.map({"OXI": 7.5, "SUL": 9.0})).round()
+    return blocks.TONNES.sum(), blocks.TONNES[brings > treating].sum()
+
+
+def said_of(text):
+    """The tonnes that are told to be left by the design, and beyond the best pit; of each the ore."""
+    line = re.search(r"left by the design (.*)", " ".join(text.split()))[1]
+    amounts = re.findall(r"([\d,.]+) ([Mk]?)t\b", line)[:4]
+    return [float(text.replace(",", "")) * {"M": 1e6, "k": 1e3, "": 1}[m] for text, m in amounts]
 
 
 def test_the_command(tmp_path):
@@ -47,6 +63,9 @@ def test_the_command(tmp_path):
     assert summary["is_closed"]
     assert summary["certificate"] == made.verdict(1000)["certificate"]
     assert f"{int(summary['gap']):,}" in small.stdout
+    assert said_of(small.stdout) == pytest.approx(
+        [*rock_and_ore(made.model.blocks[best & ~made.mask(600)]), 0, 0], abs=6e3
+    )
     assert (folder / "out/compare-small/plan-130.png").stat().st_size > 5000
     whole = pitplan("compare", folder, "--column", "WHICH", "--factor", "1.2")
     assert whole.returncode == 0

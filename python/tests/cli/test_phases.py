@@ -1,7 +1,10 @@
 """The command `phases`."""
+import math
+
 import pandas as pd
 
 from mines import written_study
+from pitplan.cli.phases import _total_of
 from served import pitplan
 
 
@@ -52,3 +55,23 @@ def test_the_command(tmp_path):
         wrong = pitplan("phases", study, *words)
         assert wrong.returncode == 3, wrong.stderr
         assert said in wrong.stderr, wrong.stderr
+
+
+def test_all_pushbacks_together_are_weighed_by_their_ore():
+    """100 t of ore at 1 % with 50 t of waste, 300 t at 2 % with 550 t, and 200 t of waste alone."""
+    grades = [1.0, 2.0, math.nan]
+    found = _total_of(
+        pd.DataFrame(
+            {
+                "ore_t": [100.0, 300.0, 0.0],
+                "waste_t": [50.0, 550.0, 200.0],
+                "worth": [7.0, 5.0, -2.0],
+                "grade_copper": grades,
+                "metal_copper": [0.8, 4.8, 0.0],
+            }
+        ),
+        {"copper": {}},
+    )
+    assert (found["ore_t"], found["waste_t"], found["strip"]) == (400, 800, 2)
+    assert (found["worth"], found["grade_copper"]) == (10, 1.75)
+    assert math.isclose(found["metal_copper"], 5.6)

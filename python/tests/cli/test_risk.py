@@ -51,6 +51,10 @@ def test_the_command_goes_on_and_its_tables(tmp_path, program):
             pd.read_csv(folder / f"out/{name}.csv"), frame, check_dtype=False
         )
     assert f"{found.table().worth_p50.iloc[1] / 1e6:,.2f}" in said
+    by_worth = found.pits(1000).sort_values("worth_mean", ascending=False, kind="stable")
+    assert by_worth.worth_mean.iloc[0] > by_worth.worth_mean.iloc[-1]
+    richest = f"at least {by_worth.likelihood.iloc[0]:.0%}, {by_worth.blocks.iloc[0]:,} blocks,"
+    assert f"that of {richest} is worth most on the mean" in " ".join(said.split())
     assert (folder / "out/likelihood.png").read_bytes().startswith(b"\x89PNG")
     assert (
         "<title>t: likelihood over 4 realisations</title>"

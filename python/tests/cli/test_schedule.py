@@ -1,7 +1,9 @@
 """What `schedule` says of a search while it goes on and once it ended."""
 import json
 import math
+from types import SimpleNamespace
 
+import pandas as pd
 import two_ways
 from planned import run
 from pitplan.cli import schedule as command
@@ -54,3 +56,40 @@ def test_the_planners_own_table_keeps_its_encoding(tmp_path):
     ).splitlines()
     sent = {line.rsplit(",", 1)[1] for line in lines[1:]}
     assert "lixivia\u00e7\u00e3o" in sent <= {"lixivia\u00e7\u00e3o", "mill", "waste", ""}
+
+
+def test_each_amount_stands_below_its_heading(monkeypatch):
+    """Of a year of 2.5 million tonnes and two processes, one of which gets less than the other."""
+    study = SimpleNamespace(
+        manifest={"metals": {"copper": {"grade_unit": "%"}}},
+        priced=SimpleNamespace(process_names=["mill", "leach"]),
+        model=SimpleNamespace(units=SimpleNamespace(weight="t", length="m")),
+        currency="$",
+    )
+    production = SimpleNamespace(terms=SimpleNamespace(per_year=1))
+    schedule = SimpleNamespace(production=production, shells=SimpleNamespace(study=study))
+    year = {"period": 3, "rock_t": 2.5e6, "ore_t": 1e6, "strip": 1.5, "feed_t": 0.9e6}
+    year |= {"process_mill_feed_t": 0.6e6, "process_leach_feed_t": 0.3e6, "grade_copper": 0.612}
+    year |= {"cash_flow": 30e6, "discounted": 28e6, "npv": 70e6, "bottom": 1007.5}
+    year |= {"narrow_share": 0.25, "binds": "mill"}
+    shown = []
+    monkeypatch.setattr(command, "print_columns", lambda *words, **more: shown.append(words))
+    command._print_years(schedule, pd.DataFrame([year]))
+    ((title, names, (cells,)),) = shown
+    assert "million $" in title
+    assert dict(zip(names, cells, strict=True)) == {
+        "year": "3",
+        "rock Mt": "2.50",
+        "ore Mt": "1.00",
+        "strip": "1.50",
+        "feed Mt": "0.90",
+        "mill Mt": "0.60",
+        "leach Mt": "0.30",
+        "copper %": "0.612",
+        "cash flow": "30.00",
+        "discounted": "28.00",
+        "npv so far": "70.00",
+        "bottom m": "1,007.5",
+        "narrow": "25%",
+        "binds": "mill",
+    }

@@ -1,9 +1,13 @@
-"""The command `shells` on a terminal."""
+"""The command `shells` on a terminal, and its table."""
 import os
 import pty
 import subprocess
+from pathlib import Path
+from types import SimpleNamespace
 
+import pandas as pd
 from mines import table, written_study
+from pitplan.cli import shells as shells_command
 from served import PITPLAN, pitplan
 
 
@@ -43,3 +47,41 @@ def test_shells_show_how_many_are_done(tmp_path):
     status, shown = on_terminal("shells", study, "--certificates")
     assert status == 0, shown
     assert "factor " in shown, shown
+
+
+class Pits(SimpleNamespace):
+    """A series of one pit."""
+
+    def __len__(self):
+        return 1
+
+
+def test_each_amount_of_a_pit_stands_below_its_heading(monkeypatch):
+    study = SimpleNamespace(
+        currency="$",
+        manifest={"metals": {"copper": {"grade_unit": "%"}}},
+        model=SimpleNamespace(units=SimpleNamespace(weight="t")),
+        folder=Path("s"),
+        named="s",
+    )
+    pit = {"factor": 0.85, "blocks": 1234, "ore_t": 1.5e6, "waste_t": 3e6, "strip": 2.0}
+    pit |= {"grade_copper": 0.612, "worth_at_base": 90e6, "npv_best": 80e6, "npv_worst": 70e6}
+    shown = []
+    monkeypatch.setattr(shells_command, "print_columns", lambda *words: shown.append(words))
+    shells_command._print_table(
+        Pits(study=study, certified=1), pd.DataFrame([pit | {"years": 6.3}])
+    )
+    ((title, names, (cells,)),) = shown
+    assert "million $" in title
+    assert dict(zip(names, cells, strict=True)) == {
+        "factor": "0.850",
+        "blocks": "1,234",
+        "ore Mt": "1.50",
+        "waste Mt": "3.00",
+        "strip": "2.00",
+        "copper %": "0.612",
+        "worth": "90.00",
+        "best case": "80.00",
+        "worst case": "70.00",
+        "years": "6.3",
+    }

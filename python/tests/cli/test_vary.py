@@ -1,11 +1,13 @@
 """The command `vary`, and what it says of pits that reach the floor."""
+from types import SimpleNamespace
+
 import numpy as np
 import pandas as pd
 import pytest
 
 import pitplan as pp
 from mines import written_study
-from pitplan.cli.vary import _warn_of_edges as edges_told
+from pitplan.cli.vary import _rates_of, _warn_of_edges as edges_told
 from pitplan.plans import vary
 from pitplan.study import edges
 from processes import command
@@ -29,6 +31,16 @@ def test_which_what_ifs_reach_the_floor_is_said(capsys, touching, words):
     found["floor_blocks"] = [9] * touching + [0] * (5 - touching)
     edges_told(found)
     assert words in " ".join(capsys.readouterr().err.split())
+
+
+def test_what_ifs_are_discounted_by_the_rates_of_study_toml():
+    """Each rate is that of its own name, and money loses 10 % a year where nothing is told."""
+    told = _rates_of(
+        SimpleNamespace(rates={"mining_rate": 6e5, "mill_rate": 4e5, "discount": 0.08})
+    )
+    assert (told.mining, told.mill, told.discount) == (6e5, 4e5, 0.08)
+    ways = _rates_of(SimpleNamespace(rates={"process_rates": {"mill": 3e5, "leach": 1e5}}))
+    assert (ways.processes, ways.mill, ways.discount) == ({"mill": 3e5, "leach": 1e5}, None, 0.1)
 
 
 def test_the_command_and_its_chart(tmp_path):

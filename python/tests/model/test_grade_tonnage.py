@@ -21,6 +21,8 @@ def test_the_grade_tonnage_of_each_rock(frame, model):
     lines = by_rock(
         model, economics.priced(model), {"copper": {"grade_unit": "%", "price_unit": "t"}}
     ).set_index("rock")
+    heaviest_first = frame.groupby("ROCK").TONNES.sum().sort_values(ascending=False)
+    assert lines.index.tolist() == [*heaviest_first.index, "all"]
     revenue = frame.TONNES * frame.CU / 100 * 0.85 * 8500
     ore = revenue > frame.TONNES * frame.ROCK.map({"OXI": 7.5, "SUL": 9.0})
     for rock, here in (

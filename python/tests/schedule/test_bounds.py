@@ -1,6 +1,7 @@
 """The bound of made-up mines so small that every schedule is tried, and the relaxation is one linear
 program."""
 import time
+from dataclasses import replace
 
 import numpy as np
 import pytest
@@ -62,3 +63,15 @@ def test_any_multipliers_give_a_bound(tmp_path, seed):
         assert nodes.total(nodes.closed(Pit(), tmp_path, prices, None).bound, prices) >= best
     with pytest.raises(PlanError, match="BadValue|multipliers"):
         nodes.closed(Pit(), tmp_path, np.full((2, PERIODS), -1), None)
+
+
+def test_a_bound_is_rounded_up():
+    """Of 1.25 units of currency, of which capacities pay 1 or 1,001 billionths of fixed costs, are
+    left 1,249,999.999 or 1,249,998.999 millionths."""
+    made = made_up(1, fixed_cost=9_000)[0]
+    one = tuple((1,) * PERIODS for _ in made.terms.capacities)
+    nodes = UnitTexts(replace(made, terms=replace(made.terms, capacities=one)))
+    prices = np.zeros((2, PERIODS), np.int64)
+    for price, total in ((0, 1_250_000), (1, 1_250_000), (1001, 1_249_999)):
+        prices[0, 0] = price
+        assert nodes.total("1.25", prices) == total

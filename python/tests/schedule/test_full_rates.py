@@ -5,7 +5,10 @@ import numpy as np
 import pytest
 
 from pitplan.schedule.full_rates import full_rates
+from pitplan.schedule.pairs import Pairs
+from pitplan.schedule.production import Production
 from pitplan.schedule.sorting import Sorting
+from pitplan.schedule.terms import Terms
 from six_blocks import BLOCKS, PERIODS, made_up
 
 
@@ -84,3 +87,16 @@ def test_what_nothing_limits_is_never_full_and_neither_is_a_mine_that_is_done():
     assert not full_rates(replace(made, terms=terms), stays, goes)[0].any()
     tight = replace(made.terms, capacities=((1,) * PERIODS, made.terms.capacities[1]))
     assert full_rates(replace(made, terms=tight), stays, goes)[0].all()
+
+
+def test_what_waits_for_a_bench_waits_a_year_also_of_half_years():
+    """Two blocks of 3 t, one below the other, and a bench a year: the lower one could come from the
+    third half year on. In the second nothing could be dug, so that its 2 t aren't full."""
+    each, three, zeros = np.arange(2), np.full(2, 3), np.zeros(2, np.int64)
+    below = Pairs.of(each[1:], each[:1], 2)
+    terms = Terms((10**6,) * 4, ((3, 2, 2, 3), ()), per_year=2, sink=1)
+    made = Production(
+        terms, each, each, 2, three, np.stack([three, zeros]), 1 - each, zeros, below, below
+    )
+    found = full_rates(made, np.array([0, 4]), np.zeros(2, np.int64))
+    assert found.tolist() == [[False, False, True, False], [False] * 4]

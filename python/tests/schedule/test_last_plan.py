@@ -15,6 +15,7 @@ from pitplan.study import study_lock
 from planned import PITPLAN, built, run
 
 MODEL, VALUES, RATES = "0" * 64, {"years": 6, "mill_rate": [0, 4e5]}, {"discount": 0.08}
+LEACHED = {"process_rates": {"leach": [0, 1e5]}}  # of one of several processes
 
 
 def written(folder, **facts):
@@ -56,6 +57,25 @@ def test_of_another_model_or_other_terms_it_is_stale(tmp_path, model, values, ra
 )
 def test_of_the_same_terms_in_other_words_it_is_not(tmp_path, values, rates):
     assert not last_plan(written(tmp_path), MODEL, {**VALUES, **values}, rates).is_stale
+
+
+@pytest.mark.parametrize(
+    "values, rates, later, is_other",
+    [
+        ({"mill_rate": None}, {"mill_rate": 4e5}, {"mill_rate": 5e5}, True),
+        ({"mill_rate": 3e5}, {"mill_rate": 4e5}, {"mill_rate": 5e5}, False),
+        (LEACHED, {"process_rates": {"leach": 1e5}}, {"process_rates": {"leach": 9e4}}, False),
+        (
+            LEACHED,
+            {"process_rates": {"mill": 4e5, "leach": 1e5}},
+            {"process_rates": {"mill": 5e5, "leach": 1e5}},
+            True,
+        ),
+    ],
+    ids=["none of its own", "its own", "its own of a process", "that of another process"],
+)
+def test_a_rate_of_another_section_counts_where_schedule_has_none(values, rates, later, is_other):
+    assert (basis_of(MODEL, values, rates) != basis_of(MODEL, values, later)) == is_other
 
 
 def test_a_study_with_a_mistake_is_not_one_that_was_changed(tmp_path):

@@ -1,17 +1,22 @@
 """A schedule under realisations of the grades, added up again from the planner's own table, beside
 bounds of studies that are written by hand with a realisation's grades."""
+import json
 import re
 import subprocess
 import sys
 from decimal import Decimal
 from pathlib import Path
+from types import SimpleNamespace
 
 import mines
 import numpy as np
 import pandas as pd
 import pytest
 from pitplan import Disagreement, Study
-from pitplan.schedule import Schedule, realisations
+from pitplan.schedule import Schedule, pit_schedule, realisations
+from pitplan.schedule.pairs import Pairs
+from pitplan.schedule.production import Production
+from pitplan.schedule.terms import Terms, terms_of
 from pitplan.study.study_file import read_study_file
 from pitplan.tasks.tasks import Tasks, wanted
 
@@ -141,3 +146,43 @@ def test_a_bound_below_the_schedule_is_never_kept(risky, monkeypatch):
     monkeypatch.setattr(realisations, "judged", lambda *words: Decimal(10**9))
     with pytest.raises(Disagreement, match="below a schedule's worth"):
         realisations.find(Study(folder), 1)
+
+
+def test_the_terms_of_realisations_are_those_of_the_schedule_without_panels_and_pushbacks(tmp_path):
+    """Of three years of four periods, by which nothing is ahead of anything."""
+    rates = {"mining_rate": 1000.0, "discount": 0.1}
+    told = {"per_year": 4, "panel": 2, "pushbacks": [0.5], "lead": 3, "sink": 4}
+    terms = terms_of({**told, "years": 3}, rates, 1.0, 1.0)
+    schedule = SimpleNamespace(
+        production=SimpleNamespace(terms=terms), period=np.zeros(3, np.int32)
+    )
+    base = SimpleNamespace(folder=tmp_path, key="0" * 64)
+    realisations.prepare(base, schedule, told, rates, 0.1, 1.0)
+    values = json.loads((tmp_path / "risk" / "schedule.json").read_text())["values"]
+    found = terms_of(values, rates, 1e9, 1e9)
+    assert (found.weights, found.capacities) == (terms.weights, terms.capacities)
+    assert (found.panel, found.pushbacks, found.lead, found.sink) == (1, (), 0, 4)
+
+
+def test_a_schedule_under_a_realisation_pays_for_each_period_in_which_it_digs_rock(monkeypatch):
+    """Blocks worth 500, 300 and -20 in the first, the last and again the last of four periods, of
+    which the second digs air alone: 500 + 280 * 0.7, less 100 * 1.7."""
+    said = SimpleNamespace(is_feasible=True, npv="696", broken=0, early=0, over=[])
+    monkeypatch.setattr(pit_schedule, "write_texts", lambda *words: None)
+    worths = np.array([500, 300, -20, 0], np.int64) * 1000
+    study = SimpleNamespace(
+        priced=SimpleNamespace(
+            thousandths=lambda factor: worths, rounding=Decimal(1), way_of=lambda factor: None
+        ),
+        model=SimpleNamespace(is_rock=np.array([True, True, True, False])),
+        program=SimpleNamespace(schedule=lambda *words: said),
+        number=7,
+    )
+    terms = Terms((1_000_000, 900_000, 800_000, 700_000), ((), ()), fixed_cost=100)
+    each, none = np.arange(4), np.zeros(4, np.int64)
+    pairs = Pairs.of(none[:0], none[:0], 4)
+    made = Production(terms, each, each, 4, none, np.stack([none, none]), none, none, pairs, pairs)
+    assert realisations.judged(study, made, np.array([0, 3, 3, 1])) == 526
+    said.npv = "696.1"
+    with pytest.raises(Disagreement, match="realisation 7: pit schedule says 696.1"):
+        realisations.judged(study, made, np.array([0, 3, 3, 1]))

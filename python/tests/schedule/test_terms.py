@@ -32,6 +32,11 @@ def test_half_years_have_half_of_the_rates_and_count_in_their_middle():
     assert terms.capacities == ((500_000,) * 4, (200_000,) * 4)  # thousandths of a tonne
 
 
+def test_half_years_of_a_list_of_rates_follow_their_years():
+    terms = terms_of({"years": 3, "per_year": 2, "mining_rate": [600, 1000]}, RATES, 1, 1)
+    assert terms.capacities[0] == (300_000, 300_000, 500_000, 500_000, 500_000, 500_000)
+
+
 def test_a_list_of_rates_goes_year_by_year_and_its_last_stays():
     terms = terms_of({"years": 4, "mill_rate": [100, 300.5]}, RATES, 1, 1)
     assert terms.capacities == ((1_000_000,) * 4, (100_000, 300_500, 300_500, 300_500))

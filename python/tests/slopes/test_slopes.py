@@ -318,3 +318,16 @@ def test_values_without_a_region_of_their_own_are_counted(tmp_path):
         + ", ".join(f"{word} {count}" for word, count in others_listed)
         in ran.stdout
     )
+
+
+def test_regions_are_counted_in_blocks_of_rock(tmp_path):
+    """Every third row is air, without tonnes, and one cell of the column is empty."""
+    frame = table(6, 5, 4, 3)
+    frame.loc[::3, "TONNES"] = 0.0
+    frame["SECTOR"] = np.where(np.arange(len(frame)) % 4 == 1, "SOUTH", frame.SECTOR)
+    frame.loc[2, "SECTOR"] = ""
+    slopes, model = pp.Slopes(45, by="SECTOR", regions={"EAST": 40}), model_of(tmp_path, frame)
+    counts = frame[frame.TONNES > 0].SECTOR.value_counts().to_dict()
+    east = counts.pop("EAST")
+    assert slopes.rock_by_region(model) == {"default": sum(counts.values()), "EAST": east}
+    assert slopes.rock_of_default(model) == counts

@@ -23,3 +23,12 @@ def test_an_error_is_an_event_with_its_key_and_line(tmp_path):
     assert found[-1] == {**found[-1], "event": "end", "status": 3}
     assert "ended with status 3 at" in last_run.last_line(folder)
     assert "has no key 'minning'" in last_run.last_line(folder)
+
+
+def test_how_long_a_command_took_is_told(tmp_path, monkeypatch):
+    begun = {"event": "begin", "command": ["pitplan", "build", "s"], "time": 1000.0}
+    ended = {"event": "end", "status": 0, "time": 1090.4}
+    monkeypatch.setattr(last_run, "of_last_run", lambda folder: [begun, ended])
+    line = last_run.last_line(tmp_path)
+    assert line.startswith("last: pitplan build s was done at ")
+    assert line.endswith(", after 90 s")

@@ -12,7 +12,7 @@ import pitplan as pp
 from mines import SIZE, costs, table
 from pitplan.base.errors import PlanError
 from pitplan.table import formula
-from pitplan.table.csv_text import dialect_of, read_frame
+from pitplan.table.csv_text import dialect_of, read_frame, rows_about
 from tables import read, refusal
 
 
@@ -395,3 +395,15 @@ def test_a_point_among_decimal_commas_is_told_where_most_cells_are_below_detecti
     (tmp_path / "t.csv").write_text("\n".join(lines) + "\n")
     with pytest.raises(PlanError, match="row 9, column AU: the cell is '8.200', with a point"):
         read_frame(tmp_path / "t.csv", dialect_of(tmp_path / "t.csv"))
+
+
+def test_cells_about_a_row_stand_below_their_names(tmp_path):
+    """Also after a cell in quotes that has a comma, or a quote that nothing ends."""
+    rows = ["IJK,ROCK,CU", 'b1,"OXI, upper",0.5', "b2,SUL,x", 'b3,"SUL,0.1', "b4,SUL,0.2"]
+    (tmp_path / "t.csv").write_text("\n".join(rows) + "\n")
+    assert rows_about(tmp_path / "t.csv", 3, "utf-8-sig", 3) == [
+        (1, ["IJK", "ROCK", "CU"]),
+        (2, ["b1", "OXI, upper", "0.5"]),
+        (3, ["b2", "SUL", "x"]),
+        (4, ["b3", "SUL,0.1"]),
+    ]

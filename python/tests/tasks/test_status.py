@@ -1,6 +1,7 @@
 """What `pitplan status` says of tasks: of Slurm, of another machine, of logs and of what was left."""
 import os
 import time
+from types import SimpleNamespace
 
 import pytest
 
@@ -123,6 +124,24 @@ def test_the_rest_is_reckoned_with_pricing(tmp_path, monkeypatch):
     with written.written():
         pass
     assert written.preparation_seconds == 0  # what was written and not used counts with no pit
+
+
+def test_the_rest_takes_less_where_several_run(monkeypatch):
+    """Two pits took 10 and 20 seconds, and of six more two are at work: 15 seconds for each two."""
+    verdicts = {600: {"seconds": 10.0}, 800: {"seconds": 20.0}}
+    study = SimpleNamespace(folder=None, given=None, verdict=verdicts.get)
+    monkeypatch.setattr(status, "Tasks", lambda *words: SimpleNamespace(study=lambda task: study))
+    found = [
+        status._State(Task("run", "base", factors), state, "", missing)
+        for factors, state, missing in (
+            ((600,), status.DONE, 0),
+            ((800,), status.DONE, 0),
+            ((900,), status.RUNNING, 1),
+            ((1000,), status.RUNNING, 1),
+            ((1100, 1200, 1300, 1400), status.WAITING, 4),
+        )
+    ]
+    assert status.seconds_left(study, found) == 45
 
 
 def test_risk_says_what_slurm_has_in_hand(tmp_path, asked_for, program):

@@ -27,10 +27,16 @@ def test_a_report_has_the_plan_by_years(planned):
     npv = 0.0
     for line in lines:
         here = dug[dug.year == line[at["Period"]]]
-        npv += here.worth.sum() * WEIGHTS[int(line[at["Period"]])]
+        discounted = here.worth.sum() * WEIGHTS[int(line[at["Period"]])]
+        npv += discounted
         assert line[at["Rock"]] == pytest.approx(here.TONNES.sum())
         assert line[at["Ore"]] == pytest.approx(here.ore.sum())
+        assert line[at["Waste"]] == pytest.approx((here.TONNES - here.ore).sum())
+        grade = (here.ore * here.CU).sum() / here.ore.sum() if here.ore.sum() else None
+        assert line[at["Grade of copper"]] == pytest.approx(grade)
+        assert line[at["Toe of the lowest bench"]] == here.ZC.min() - 7.5
         assert line[at["Cash flow"]] == pytest.approx(here.worth.sum(), abs=2)
+        assert line[at["Discounted"]] == pytest.approx(discounted, rel=1e-6)
         assert line[at["Discounted so far"]] == pytest.approx(npv, rel=1e-6)
     cover = " ".join(str(cell.value) for row in book.worksheets[0] for cell in row)
     assert f"worth $ {int(npv):,} today, at most" in cover

@@ -75,8 +75,11 @@ def test_bars_are_the_years_and_lines_the_rates_and_the_bound(found):
     rates = line(tonnes, "Rock that may be dug")
     assert (rates * kilo).tolist() == pytest.approx([600e3] + [500e3] * len(years.index))
     assert line(tonnes, "Feed that may be milled") * kilo == pytest.approx(400e3)
+    assert line(tonnes, "Feed of the mill") * kilo == pytest.approx(years.feed_t.to_numpy())
     unit = 1e6 if "million" in money.get_ylabel() else 1e3
     assert heights(money, "Cash flow") == pytest.approx((years.cash_flow / unit).tolist())
+    weighed = years.cash_flow / 1.08 ** (years.year - 0.5)
+    assert heights(money, "Discounted") == pytest.approx((weighed / unit).tolist(), rel=1e-5)
     assert line(money, "Net present value so far")[-1] * unit == pytest.approx(float(found.npv))
     assert line(money, "No schedule brings more")[0] * unit == pytest.approx(float(found.bound))
     assert found.gap_text in tonnes.get_title()
@@ -103,6 +106,17 @@ def test_a_section_and_a_bench_show_the_year_of_each_block(found):
         for i, j, t in zip(across[at], up[at], year[at.to_numpy()]):
             wanted[j, i] = t if t >= 0 else np.nan
         assert np.array_equal(shown, wanted, equal_nan=True)
+
+
+def test_the_bench_and_the_section_are_those_where_most_is_to_be_seen(found):
+    """The bench on which most years dig, by its toe, and the row with most blocks: by the table."""
+    toe, row = schedule_pictures.middle_of(found)
+    blocks = found.shells.study.model.blocks.assign(year=found.period + 1)
+    dug = blocks[(blocks.year > 0) & (blocks.tonnes > 0)]
+    years = dug.groupby("ZC").year.nunique()
+    assert years[toe + 7.5] == years.max() > years.min()
+    counts = dug.groupby("YC").size()
+    assert counts[9000 + 20 * row] == counts.max()
 
 
 @pytest.fixture(scope="module")

@@ -11,6 +11,15 @@ from pitplan.views import page, schedule_view
 from pitplan.views.page_views import ViewTable
 
 
+def of_rows(found):
+    """The planner's own rows, with their ore and what each is worth where it is dug: whole dollars."""
+    blocks = found.shells.study.model.blocks
+    brings = (blocks.TONNES * blocks.CU / 100 * 0.85 * 24000).round()
+    treating = (blocks.TONNES * blocks.ROCK.map({"OXI": 7.5, "SUL": 9.0})).round()
+    worth = (brings - treating).clip(lower=0) - (blocks.TONNES * 2).round()
+    return blocks.assign(worth=worth, ore=blocks.TONNES.where(brings > treating, 0))
+
+
 def test_the_page_has_the_mine_at_the_end_of_each_year(found, tmp_path):
     """Heights are added up block by block from the schedule, and facts are the figures of the table."""
     years = Tables(found).years()
@@ -36,6 +45,27 @@ def test_the_page_has_the_mine_at_the_end_of_each_year(found, tmp_path):
     assert found.gap_text in view.lines[0]
     path = page.write_views(tmp_path / "s.html", found.shells.study, [view], "schedule")
     assert "Schedule by years" in path.read_text()
+
+
+def test_amounts_of_the_page_are_those_of_the_rows_of_each_year(found):
+    """Money of a year counts as at its middle, at 8 % a year; a cell is rounded to a hundredth of its
+    unit."""
+    view = schedule_view.schedule(found, Tables(found).years())
+    rows = of_rows(found).assign(year=found.period + 1).query("year > 0")
+    sums = rows.groupby("year")[["TONNES", "ore", "worth"]].sum()
+    discounted = sums.worth / 1.08 ** (sums.index - 0.5)
+    unit = {"million": 1e6, "thousand": 1e3, "Mt": 1e6, "kt": 1e3}
+    for name, wanted in (
+        ("Ore", sums.ore),
+        ("Waste", sums.TONNES - sums.ore),
+        ("Cash flow", sums.worth),
+        ("Discounted", discounted),
+        ("Net present value so far", discounted.cumsum()),
+    ):
+        (one,) = (each for each in view.table.columns if each[0].startswith(f"{name} ("))
+        divisor = unit[one[0].partition("(")[2].rstrip(")").split()[0]]
+        shown = [float(text.replace(",", "")) for text in one[1]]
+        assert shown == pytest.approx((wanted / divisor).tolist(), abs=0.006), name
 
 
 def test_each_word_is_that_of_the_period(found):
@@ -64,6 +94,7 @@ def test_what_stays_in_the_ground_is_said(found):
     study = found.shells.study
     stays = last & study.model.is_rock
     tonnes = study.model.blocks.tonnes.to_numpy()[stays].sum()
+    assert f" worth $ {of_rows(found).worth[stays].sum():,.0f} undiscounted" in view.lines[1]
     assert view.lines[1].startswith(f"{stays.sum():,} blocks of the pit stay in the ground, ")
     assert (
         f" {tonnes / 1e6:,.2f} Mt worth " in view.lines[1]

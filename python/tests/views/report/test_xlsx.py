@@ -53,8 +53,22 @@ def test_the_workbook_has_what_the_table_adds_up_to(reported):
             sums(o for o in rows if float(o["ZC"]) == row[0] and o["shell"] == row[1]),
         )
     for row, of in zip(cells_of(book["Pushbacks"]), ((0.0, 0.6), (0.6, 1.0)), strict=True):
-        assert close(row[4:14], sums(o for o in rows if of[0] < o["shell"] <= of[1]))
+        own = [one for one in rows if of[0] < one["shell"] <= of[1]]
+        assert close(row[4:14], sums(own))
+        centres = [float(one["ZC"]) for one in own]
+        assert row[2:4] == [max(centres) + 7.5, min(centres) - 7.5]
     assert len(cells_of(book["Pushback benches"])) >= len(benches)
+
+
+def test_the_cover_has_the_best_case_before_the_worst(reported):
+    """In whole dollars, as the table of pits has them at the full price."""
+    book = book_of(reported[0])
+    (pit,) = (row for row in cells_of(book["Pit by pit"]) if float(row[0]) == 1.0)
+    facts = {row[0]: row[1] for row in cells_of(book["Report"])}
+    best, worst = pit[11:13]
+    assert best > worst
+    said = facts["Discounted, by two simple orders"]
+    assert said == f"$ {round(best):,} and {round(worst):,}"
 
 
 def test_rocks_of_the_whole_model(reported):
