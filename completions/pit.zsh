@@ -10,7 +10,7 @@ _pit() {
         'report:Prints the bench table'
         'value:Judges a design'
         'schedule:Judges a schedule'
-        'bound:Bounds the worth of every schedule, by a certificate of blocks and periods'
+        'bound:Bounds the worth of every feasible schedule, by a certificate of blocks and periods'
         'replay:Repeats a run of push-relabel step by step from its trace'
     )
     if (( CURRENT == 2 )); then
@@ -90,7 +90,7 @@ _pit() {
             '--periods[What periods weigh, which columns have what blocks use of resources, and what each period has]:periods:_files' \
             '--uses[The blocks with the columns of what they use]:uses:_files' \
             '--factor[The share of the revenues that counts, in thousandths, from 0 to 10000, with --blocks and no --upit]:factor: ' \
-            '--best[A certificate of blocks and periods, which bounds the worth of every schedule]:best:_files' \
+            '--best[A certificate of blocks and periods, which bounds the worth of every feasible schedule]:best:_files' \
             '--pit[A certificate of a best pit of the mine, at the same price, as `pit solve` writes it and `pit check` judges it]:pit:_files' \
             '--verbose[Reports on standard error which file failed, and the system'\''s reason]' \
             '-h[Print help (see a summary with '\''-h'\'')]' '--help[Print help (see a summary with '\''-h'\'')]' '*:file:_files' ;;

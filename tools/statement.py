@@ -370,7 +370,7 @@ def page(sources):
 
 ENGINE = "crates/check_engines/src/checking_engine.rt"
 BOUNDS = "crates/bound_engines/src/bounding_engine.rt"
-BOUND_WORDS = """Whoever relies on a bound on the worth of every schedule has to believe %d definitions: %d of those above, and these.
+BOUND_WORDS = """Whoever relies on a bound on the worth of every feasible schedule has to believe %d definitions: %d of those above, and these.
 The last but those of its line is `IsBounded`."""
 HEAD_WORDS = """`tools/statement.py` wrote this page from the sources, and the tests compare it. It has every definition on which an answer of
 `pit check` or a bound on schedules rests, and no other. A file stands after those it uses.

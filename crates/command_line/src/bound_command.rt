@@ -7,12 +7,14 @@ use crate::options::{
 use clap::{ArgMatches, Command};
 use std::alloc::{AllocError, Global};
 
-const ABOUT: &str = "Bounds the worth of every schedule, by a certificate of blocks and periods";
+const ABOUT: &str =
+    "Bounds the worth of every feasible schedule, by a certificate of blocks and periods";
 
 const USAGE: &str =
     "pit bound (--prec <FILE> --upit <FILE> --uses <FILE> | [--prec <FILE> | --upit <FILE>] --blocks <FILE> --settings <FILE>) --periods <FILE> [OPTIONS] <CERT>";
 
-const DETAILS: &str = "Bounds the worth of every schedule, by a certificate of blocks and periods.
+const DETAILS: &str =
+    "Bounds the worth of every feasible schedule, by a certificate of blocks and periods.
 
 The certificate is of a mine whose blocks are nodes: with n blocks node t * n + b is block b, dug by the end of period t. It needs the nodes of its predecessors in that period, its own of the next, and those of the blocks for which it waits, `lag` periods before. What a node is worth is made from the files, at the multipliers of the periods, never read. A flow has to prove the best pit of these nodes.
 

@@ -28,7 +28,7 @@ const RESTS_TWICE: &str =
 /// What the arguments ask for.
 #[derive(Clone, Copy)]
 pub enum Request<'a> {
-    /// The worth of every schedule is to be bounded by a certificate.
+    /// The worth of every feasible schedule is to be bounded by a certificate.
     Bound(BoundArgs<'a>),
     /// A certificate is to be checked.
     Check(CheckArgs<'a>),

@@ -37,7 +37,7 @@ const PERIODS_HELP: &str =
     "What periods weigh, which columns have what blocks use of resources, and what each period has: a TOML text";
 
 const BEST_HELP: &str =
-    "A certificate of blocks and periods, which bounds the worth of every schedule: what `pit solve --periods` writes. The periods need multipliers; with --blocks it names the factor, and --factor can't be given";
+    "A certificate of blocks and periods, which bounds the worth of every feasible schedule: what `pit solve --periods` writes. The periods need multipliers; with --blocks it names the factor, and --factor can't be given";
 
 const FACTOR_HELP: &str =
     "The share of the revenues that counts, in thousandths, from 0 to 10000, with --blocks and no --upit; 1000 by default";

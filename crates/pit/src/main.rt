@@ -285,7 +285,7 @@ fn schedule<'a, R: Files + Print + Eprint + Threads + Sync + AllocGlobal>(
     bounded(schedule_files(rt, args, factor))
 }
 
-// Bounds the worth of every schedule of the mine of files and its periods.
+// Bounds the worth of every feasible schedule of the mine of files and its periods.
 fn bound<'a, R: Files + Print + Eprint + Threads + Sync + AllocGlobal>(
     rt: &'a R,
     args: BoundArgs<'a>,

@@ -164,7 +164,7 @@ fn schedule_beside<'a, R: Files + Print + Eprint + Threads + Sync + AllocGlobal>
     compare_schedule_engine(rt, rt.alloc(), mine, beside, &mut certificates, &mut out)
 }
 
-/// Bounds the worth of every schedule of the mine of files and its periods, by the certificate of a file.
+/// Bounds the worth of every feasible schedule of the mine of files and its periods, by the certificate of a file.
 ///
 /// # Errors
 /// `Device` where a file can't be opened; then those of the engine.
@@ -176,7 +176,7 @@ pub fn bound_files<'a, R: Files + Print + Eprint + Threads + Sync + AllocGlobal>
     bound_over(rt, args, &mut mine)
 }
 
-// Bounds the worth of every schedule of a mine.
+// Bounds the worth of every feasible schedule of a mine.
 //
 // # Errors
 // As for the files of the mine.
@@ -192,7 +192,7 @@ fn bound_over<'a, R: Files + Print + Eprint + Threads + Sync + AllocGlobal>(
     bound_beside(rt, args, mine, &mut beside)
 }
 
-// Bounds the worth of every schedule of a mine and its periods.
+// Bounds the worth of every feasible schedule of a mine and its periods.
 //
 // # Errors
 // `Device` where a certificate can't be opened; then those of the engine.
