@@ -120,7 +120,7 @@ def view_html(number: int, view: View, key: str) -> str:
     )
 
 
-def table_named(study: Study) -> str:
+def _table_named(study: Study) -> str:
     """What stands beside the heading: the table that the study is of, which may be called otherwise."""
     name = table_of(study)
     return f'<p class="note">of the table {html.escape(name)}</p>' if name else ""
@@ -132,7 +132,9 @@ def facts_html(view: View) -> str:
     at, columns = view.start - 1, view.table.columns
     name = html.escape(f"{view.table.first.lower()}\N{NO-BREAK SPACE}{view.table.names[at]}")
     head = f'<th scope="col">{name} alone</th><th scope="col">up to {name}</th>'
-    sides = view.sides or [(texts,) for _, texts in columns]
+    sides: list[tuple[list[str], ...]] = [*view.sides]
+    if not sides:
+        sides = [(texts,) for _, texts in columns]
     rows = (
         f'<tr><th scope="row">{html.escape(heading)}</th>'
         + "".join(f"<td>{html.escape(texts[at])}</td>" for texts in each)
@@ -218,7 +220,7 @@ def write_views(
     template = (Path(__file__).parent / "page.html").read_text(encoding="utf-8")
     places = {
         "title": html.escape(title),
-        "table": table_named(study),
+        "table": _table_named(study),
         "slider": html.escape(first.slider),
         "steps": str(len(first.table.names)),
         "start": str(first.start),

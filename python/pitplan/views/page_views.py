@@ -36,7 +36,7 @@ if TYPE_CHECKING:
     from ..study.study import Study
 
 Columns = list[tuple[str, list[str]]]  # a heading with its unit, and the texts below it
-Sides = list[tuple[list[str], list[str]]]  # of a column, the texts of each row alone and up to it
+_Sides = list[tuple[list[str], list[str]]]  # of a column, the texts of each row alone and up to it
 PATTERNS = 5  # that blocks are told apart by, unless there are more kinds of them
 CERTIFIED = (
     "Each pit has a certificate that pit check has accepted: no pit that keeps the slopes is worth"
@@ -111,7 +111,7 @@ class View:
         What is told above the facts.
     more : list of ViewTable
         Below the first one.
-    sides : Sides
+    sides : _Sides
         Where a row is what was dug since the row before it: of each column the texts of each row
         alone, and with all rows before it. Empty where a row has all that its surface has.
     """
@@ -128,7 +128,7 @@ class View:
     is_beside: bool = False
     lines: list[str] = field(default_factory=list)
     more: list[ViewTable] = field(default_factory=list)
-    sides: Sides = field(default_factory=list)
+    sides: _Sides = field(default_factory=list)
 
     @property
     def middle(self) -> list[int]:
@@ -214,14 +214,12 @@ def so_far(
     return found
 
 
-def beside(columns: Columns, sums: Columns, running: Iterable[tuple[str, list[str]]] = ()) -> Sides:
+def beside(alone: Columns, sums: Columns, running: Iterable[tuple[str, list[str]]] = ()) -> _Sides:
     """The texts of some columns beside those of their sums. A column without a sum has none, and
     one that is `running` has all rows up to each itself."""
-    whole, nothing = dict(running), [""] * len(columns[0][1])
+    whole, nothing = dict(running), [""] * len(alone[0][1])
     upto = dict(sums) | whole
-    return [
-        (nothing if name in whole else texts, upto.get(name, nothing)) for name, texts in columns
-    ]
+    return [(nothing if name in whole else texts, upto.get(name, nothing)) for name, texts in alone]
 
 
 def _bottoms(grid: Grid, levels: Levels) -> list[str]:
@@ -330,6 +328,19 @@ def _added(rock: Any) -> list[float]:
     return found
 
 
+def _dug(study: Study, rows: pd.DataFrame, pushbacks: pd.DataFrame) -> Columns:
+    """What each row of a table as `Phases.table` digs, at the scales of the pushbacks."""
+    unit, money = study.model.units.length, scale_of(pushbacks["worth"], study.currency)
+    metals, weight = study.manifest["metals"], study.model.units.weight
+    return [
+        (f"From ({unit})", lengths(rows["top"])),
+        (f"Down to ({unit})", lengths(rows["bottom"])),
+        ("Blocks", [f"{v:,}" for v in rows["blocks"]]),
+        *rock_and_metal(rows, metals, weight, pushbacks),
+        scaled("Worth at factor 1", rows["worth"], money),
+    ]
+
+
 def phases(phases: Phases, table: pd.DataFrame | None = None) -> View:
     """Pushbacks; `table` as `Phases.table` gives it.
 
@@ -337,22 +348,12 @@ def phases(phases: Phases, table: pd.DataFrame | None = None) -> View:
     """
     study, count = phases.shells.study, len(phases)
     table = phases.table() if table is None else table
-    metals, unit = study.manifest["metals"], study.model.units.length
+    unit = study.model.units.length
     pushed = [
         (f"the mine after pushback {k}", (phases.pushback > 0) & (phases.pushback <= k))
         for k in range(1, count + 1)
     ]
-
-    def dug(rows: pd.DataFrame) -> Columns:
-        return [
-            (f"From ({unit})", lengths(rows["top"])),
-            (f"Down to ({unit})", lengths(rows["bottom"])),
-            ("Blocks", [f"{v:,}" for v in rows["blocks"]]),
-            *rock_and_metal(rows, metals, study.model.units.weight, table),
-            scaled("Worth at factor 1", rows["worth"], scale_of(table["worth"], study.currency)),
-        ]
-
-    own = dug(table)
+    own = _dug(study, table, table)
     columns = [
         ("Factor of its pit", [factor_text(k) for k in phases.shells.factors]),
         *own[:2],
@@ -361,7 +362,7 @@ def phases(phases: Phases, table: pd.DataFrame | None = None) -> View:
         (f"Thinnest ({unit})", lengths(table["width"])),
         (f"on the bench at ({unit})", lengths(table["width_bench"])),
     ]
-    sums = so_far(table, metals).assign(top=table["top"].cummax())
+    sums = so_far(table, study.manifest["metals"]).assign(top=table["top"].cummax())
     names = [str(k) for k in range(1, count + 1)]
     return View(
         "Pushbacks",
@@ -374,7 +375,7 @@ def phases(phases: Phases, table: pd.DataFrame | None = None) -> View:
         count,
         table["rock_t"].tolist(),
         more=by_kinds(study, "Pushback", {name: phases.pushback == int(name) for name in names}),
-        sides=beside(columns, dug(sums)),
+        sides=beside(columns, _dug(study, sums, table)),
     )
 
 
