@@ -29,7 +29,7 @@ def report(
         help="Tell of pushbacks too: the factors of the pits that end them, ascending, as 0.5,0.75,1.0.",
     ),
     title: Optional[str] = typer.Option(
-        None, show_default=False, help="Of the cover. Default: the table's name."
+        None, show_default=False, help="Of the cover. Default: the study's name."
     ),
 ) -> None:
     """Write a report: what was asked for, tables, pictures, the plan by years where there is one,

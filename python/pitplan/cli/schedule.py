@@ -211,12 +211,13 @@ def _draw(schedule: Schedule, years: pd.DataFrame) -> None:
 def _write_page(schedule: Schedule, years: pd.DataFrame) -> None:
     """The mine at the end of each period, as a page."""
     from ..views import page, schedule_view
+    from ..views.study_names import name_of
 
     study = schedule.shells.study
     path = results(study) / "schedule.html"
     try:
         view = schedule_view.schedule(schedule, years)
-        page.write_views(path, study, [view], f"{study.model.name}: {view.name.lower()}")
+        page.write_views(path, study, [view], f"{name_of(study)}: {view.name.lower()}")
         say(f"{path}: {path.stat().st_size / 1e6:.1f} MB, opens in any browser")
     except PlanError as error:  # as where three.js isn't there
         warn(str(error))

@@ -22,6 +22,7 @@ from . import page_views
 from .pit_surfaces import packed, packed_marks
 from .page_views import PATTERNS, ViewTable, View
 from .pit_colours import tones
+from .study_names import name_of, table_of
 
 if TYPE_CHECKING:
     import pandas as pd
@@ -74,6 +75,8 @@ def of_view(view: View) -> dict[str, Any]:
         "paint": view.paint,
         "tones": tones(view.weights),
         "beside": view.is_beside,
+        "word": view.table.first.lower(),
+        "sides": view.sides,
         "patterns": len(view.labels) <= PATTERNS,
         "start": view.start,
         "middle": view.middle,
@@ -117,11 +120,30 @@ def view_html(number: int, view: View, key: str) -> str:
     )
 
 
+def _table_named(study: Study) -> str:
+    """What stands beside the heading: the table that the study is of, which may be called otherwise."""
+    name = table_of(study)
+    return f'<p class="note">of the table {html.escape(name)}</p>' if name else ""
+
+
 def facts_html(view: View) -> str:
-    """The facts of the surface that is shown first."""
-    return "".join(
-        f"<dt>{html.escape(heading)}</dt><dd>{html.escape(texts[view.start - 1])}</dd>"
-        for heading, texts in view.table.columns
+    """The facts of the surface that is shown first; where a row is what was dug since the row before
+    it, the row's own beside those of all up to it."""
+    at, columns = view.start - 1, view.table.columns
+    name = html.escape(f"{view.table.first.lower()}\N{NO-BREAK SPACE}{view.table.names[at]}")
+    head = f'<th scope="col">{name} alone</th><th scope="col">up to {name}</th>'
+    sides: list[tuple[list[str], ...]] = [*view.sides]
+    if not sides:
+        sides = [(texts,) for _, texts in columns]
+    rows = (
+        f'<tr><th scope="row">{html.escape(heading)}</th>'
+        + "".join(f"<td>{html.escape(texts[at])}</td>" for texts in each)
+        + "</tr>"
+        for (heading, _), each in zip(columns, sides)
+    )
+    return (
+        f"<thead{'' if view.sides else ' hidden'}><tr><td></td>{head}</tr></thead>"
+        f"<tbody>{''.join(rows)}</tbody>"
     )
 
 
@@ -198,6 +220,7 @@ def write_views(
     template = (Path(__file__).parent / "page.html").read_text(encoding="utf-8")
     places = {
         "title": html.escape(title),
+        "table": _table_named(study),
         "slider": html.escape(first.slider),
         "steps": str(len(first.table.names)),
         "start": str(first.start),
@@ -234,7 +257,7 @@ def write(
     table : DataFrame or None
         `shells.table(..)` with the user's rates; None takes the usual ones.
     title : str or None
-        The heading; None is the model's name.
+        The heading; None is the study's name.
     phases : Phases or None
     design : Comparison or None
 
@@ -250,8 +273,8 @@ def write(
 
 
 def heading(shells: Shells, title: str | None) -> str:
-    """The heading of a page of pits; without a title of its own it has the model's name."""
-    return f"{title or shells.study.model.name}: nested pits"
+    """The heading of a page of pits; without a title of its own it has the study's name."""
+    return f"{title or name_of(shells.study)}: nested pits"
 
 
 def views_of(
@@ -294,5 +317,5 @@ def write_likelihood(
         path,
         risk.study,
         [view],
-        f"{risk.study.model.name}: likelihood over {risk.count:,} realisations",
+        f"{name_of(risk.study)}: likelihood over {risk.count:,} realisations",
     )

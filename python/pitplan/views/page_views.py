@@ -5,7 +5,7 @@ and a row of facts for each.
 """
 from __future__ import annotations
 
-from collections.abc import Mapping
+from collections.abc import Iterable, Mapping
 from dataclasses import dataclass, field
 from typing import TYPE_CHECKING, Any
 
@@ -35,7 +35,8 @@ if TYPE_CHECKING:
     from ..study.shells import Shells
     from ..study.study import Study
 
-_Columns = list[tuple[str, list[str]]]  # a heading with its unit, and the texts below it
+Columns = list[tuple[str, list[str]]]  # a heading with its unit, and the texts below it
+_Sides = list[tuple[list[str], list[str]]]  # of a column, the texts of each row alone and up to it
 PATTERNS = 5  # that blocks are told apart by, unless there are more kinds of them
 CERTIFIED = (
     "Each pit has a certificate that pit check has accepted: no pit that keeps the slopes is worth"
@@ -69,13 +70,13 @@ class ViewTable:
         The heading of `names`.
     names : list of str
         Of the rows.
-    columns : _Columns
+    columns : Columns
     """
 
     caption: str
     first: str
     names: list[str]
-    columns: _Columns
+    columns: Columns
 
 
 @dataclass(frozen=True)
@@ -110,6 +111,9 @@ class View:
         What is told above the facts.
     more : list of ViewTable
         Below the first one.
+    sides : _Sides
+        Where a row is what was dug since the row before it: of each column the texts of each row
+        alone, and with all rows before it. Empty where a row has all that its surface has.
     """
 
     name: str
@@ -124,6 +128,7 @@ class View:
     is_beside: bool = False
     lines: list[str] = field(default_factory=list)
     more: list[ViewTable] = field(default_factory=list)
+    sides: _Sides = field(default_factory=list)
 
     @property
     def middle(self) -> list[int]:
@@ -155,35 +160,66 @@ def ratio(values: Any, places: str = ".2f") -> list[str]:
     return [format(v, places) if np.isfinite(v) else "-" for v in values]
 
 
-def grade_texts(values: Any) -> list[str]:
-    """Grades of one column: with as many decimals as the greatest needs for four digits, so that
-    they stand digit below digit."""
-    return ratio(values, f",.{grade_places(values)}f")
+def grade_texts(values: Any, like: Any = None) -> list[str]:
+    """Grades of one column: with as many decimals as the greatest, or that of `like`, needs for four
+    digits, so that they stand digit below digit."""
+    return ratio(values, f",.{grade_places(values if like is None else like)}f")
 
 
 def rock_and_metal(
-    table: pd.DataFrame, metals: Mapping[str, Mapping[str, str]], weight: str
-) -> _Columns:
+    table: pd.DataFrame,
+    metals: Mapping[str, Mapping[str, str]],
+    weight: str,
+    like: pd.DataFrame | None = None,
+) -> Columns:
     """Ore, waste and strip ratio, and of each metal its grade and what is recovered: of a table
-    with columns as `Shells.table`, in a unit of weight."""
-    rock = scale_of(table["ore_t"] + table["waste_t"], weight)
+    with columns as `Shells.table`, in a unit of weight; at the scales of `like`, if that is given.
+    """
+    like = table if like is None else like
+    rock = scale_of(like["ore_t"] + like["waste_t"], weight)
     found = [
         scaled("Ore", table["ore_t"], rock),
         scaled("Waste", table["waste_t"], rock),
         (f"Strip ratio ({weight}/{weight})", ratio(table["strip"])),
     ]
     for metal, units in metals.items():
-        found.append(
-            (f"Grade of ore, {metal} ({units['grade_unit']})", grade_texts(table[f"grade_{metal}"]))
-        )
-        found.append(
-            scaled(
-                f"Recovered {metal}",
-                table[f"metal_{metal}"],
-                scale_of(table[f"metal_{metal}"], units["price_unit"]),
-            )
-        )
+        grade, amount = f"grade_{metal}", f"metal_{metal}"
+        texts = grade_texts(table[grade], like[grade])
+        found.append((f"Grade of ore, {metal} ({units['grade_unit']})", texts))
+        scale = scale_of(like[amount], units["price_unit"])
+        found.append(scaled(f"Recovered {metal}", table[amount], scale))
     return found
+
+
+_SUMMED = ("blocks", "rock_t", "waste_t", "cash_flow", "discounted", "worth")
+
+
+def so_far(
+    table: pd.DataFrame, metals: Iterable[str], processes: Iterable[str] = ()
+) -> pd.DataFrame:
+    """A table of years or pushbacks with what each row and all before it come to: sums, the grade
+    of all their ore, and their lowest bench."""
+    found, names = table.copy(), [name for name in _SUMMED if name in table]
+    found[names] = table[names].cumsum()
+    for before in ("", *(f"process_{name}_" for name in processes)):
+        ore, tonnes = f"{before}ore_t", table[f"{before}ore_t"]
+        found[ore], found[f"{before}feed_t"] = tonnes.cumsum(), table[f"{before}feed_t"].cumsum()
+        for metal in metals:
+            grade, amount = f"{before}grade_{metal}", f"{before}metal_{metal}"
+            graded = (table[grade] * tonnes).fillna(0.0).cumsum()
+            found[grade] = graded / found[ore].where(found[ore] > 0)
+            found[amount] = table[amount].cumsum()
+    found["strip"] = found["waste_t"] / found["ore_t"].where(found["ore_t"] > 0)
+    found["bottom"] = table["bottom"].cummin().ffill()
+    return found
+
+
+def beside(alone: Columns, sums: Columns, running: Iterable[tuple[str, list[str]]] = ()) -> _Sides:
+    """The texts of some columns beside those of their sums. A column without a sum has none, and
+    one that is `running` has all rows up to each itself."""
+    whole, nothing = dict(running), [""] * len(alone[0][1])
+    upto = dict(sums) | whole
+    return [(nothing if name in whole else texts, upto.get(name, nothing)) for name, texts in alone]
 
 
 def _bottoms(grid: Grid, levels: Levels) -> list[str]:
@@ -239,21 +275,25 @@ def pits(shells: Shells, table: pd.DataFrame) -> View:
         names,
         start,
         _added(table["rock_t"]),
-        more=by_kinds(shells.study, {name: shells.holds(i) for i, name in enumerate(names)}),
+        more=by_kinds(
+            shells.study, "Factor", {name: shells.holds(i) for i, name in enumerate(names)}
+        ),
     )
 
 
-def by_kinds(study: Study, sets: Mapping[str, Bools], factor: int = THOUSAND) -> list[ViewTable]:
+def by_kinds(
+    study: Study, of: str, sets: Mapping[str, Bools], factor: int = THOUSAND
+) -> list[ViewTable]:
     """Tables of what each set of blocks has of each process, where there are several, and of each
-    resource class, where the table has some. Ore is what is treated at a factor (in
-    thousandths)."""
+    resource class, where the table has some; `of` is what the names of the sets are. Ore is what is
+    treated at a factor (in thousandths)."""
     found = []
     if study.priced.process_names:
         found.append(
-            _by_kind(study, sets, factor, ("By process", "Of, to", study.priced.goes(factor)))
+            _by_kind(study, sets, factor, ("By process", f"{of}, to", study.priced.goes(factor)))
         )
     if study.classes is not None:
-        classes = ("By resource class", "Of, class", study.classes.masks())
+        classes = ("By resource class", f"{of}, class", study.classes.masks())
         found.append(_by_kind(study, sets, factor, classes))
     return found
 
@@ -288,6 +328,19 @@ def _added(rock: Any) -> list[float]:
     return found
 
 
+def _dug(study: Study, rows: pd.DataFrame, pushbacks: pd.DataFrame) -> Columns:
+    """What each row of a table as `Phases.table` digs, at the scales of the pushbacks."""
+    unit, money = study.model.units.length, scale_of(pushbacks["worth"], study.currency)
+    metals, weight = study.manifest["metals"], study.model.units.weight
+    return [
+        (f"From ({unit})", lengths(rows["top"])),
+        (f"Down to ({unit})", lengths(rows["bottom"])),
+        ("Blocks", [f"{v:,}" for v in rows["blocks"]]),
+        *rock_and_metal(rows, metals, weight, pushbacks),
+        scaled("Worth at factor 1", rows["worth"], money),
+    ]
+
+
 def phases(phases: Phases, table: pd.DataFrame | None = None) -> View:
     """Pushbacks; `table` as `Phases.table` gives it.
 
@@ -295,23 +348,21 @@ def phases(phases: Phases, table: pd.DataFrame | None = None) -> View:
     """
     study, count = phases.shells.study, len(phases)
     table = phases.table() if table is None else table
+    unit = study.model.units.length
     pushed = [
         (f"the mine after pushback {k}", (phases.pushback > 0) & (phases.pushback <= k))
         for k in range(1, count + 1)
     ]
-    columns = [("Factor of its pit", [factor_text(k) for k in phases.shells.factors])]
-    unit = study.model.units.length
-    columns += [
-        (f"From ({unit})", lengths(table["top"])),
-        (f"Down to ({unit})", lengths(table["bottom"])),
-    ]
-    columns += [(name, [f"{v:,}" for v in table[name.lower()]]) for name in ("Benches", "Blocks")]
-    columns += [
-        *rock_and_metal(table, study.manifest["metals"], study.model.units.weight),
-        scaled("Worth at factor 1", table["worth"], scale_of(table["worth"], study.currency)),
+    own = _dug(study, table, table)
+    columns = [
+        ("Factor of its pit", [factor_text(k) for k in phases.shells.factors]),
+        *own[:2],
+        ("Benches", [f"{v:,}" for v in table["benches"]]),
+        *own[2:],
         (f"Thinnest ({unit})", lengths(table["width"])),
         (f"on the bench at ({unit})", lengths(table["width_bench"])),
     ]
+    sums = so_far(table, study.manifest["metals"]).assign(top=table["top"].cummax())
     names = [str(k) for k in range(1, count + 1)]
     return View(
         "Pushbacks",
@@ -323,7 +374,8 @@ def phases(phases: Phases, table: pd.DataFrame | None = None) -> View:
         names,
         count,
         table["rock_t"].tolist(),
-        more=by_kinds(study, {name: phases.pushback == int(name) for name in names}),
+        more=by_kinds(study, "Pushback", {name: phases.pushback == int(name) for name in names}),
+        sides=beside(columns, _dug(study, sums, table)),
     )
 
 
@@ -376,7 +428,12 @@ def design(study: Study, comparison: Comparison) -> View:
         lines=said,
         more=[
             _bench_by_bench(study, comparison),
-            *by_kinds(study, {comparison.design.name: held, "best pit": best}, comparison.factor),
+            *by_kinds(
+                study,
+                "Pit",
+                {comparison.design.name: held, "best pit": best},
+                comparison.factor,
+            ),
         ],
     )
 
@@ -465,7 +522,7 @@ def likelihood(risk: Risk, factor: int, table: pd.DataFrame) -> View:
 def _spread(risk: Risk, currency: str) -> ViewTable:
     """Tonnes and worth of the realisations' own best pits, factor by factor."""
     table = risk.table()
-    columns: _Columns = []
+    columns: Columns = []
     weight = risk.study.model.units.weight
     for name, column, unit in (("Rock", "rock_t", weight), ("Worth", "worth", currency)):
         ends = [

@@ -2,12 +2,13 @@
 section by year."""
 from __future__ import annotations
 
+import textwrap
+from collections.abc import Iterable
 from typing import Any
 
 import numpy as np
 import pandas as pd
 from matplotlib import patheffects
-from matplotlib.backends.backend_agg import FigureCanvasAgg
 from matplotlib.colors import BoundaryNorm, ListedColormap
 from matplotlib.figure import Figure
 from matplotlib.patches import Patch
@@ -36,19 +37,23 @@ from .pictures import (
     sheet,
 )
 from .plane import Plane
+from .study_names import name_of
 
 _WASTE, _FLOW, _DISCOUNTED = "#f1efe9", "#c9d9e6", "#5b86a8"
 _MINING, _WORTH = "#a3341f", "black"
 # of the mill, or of each process
 _MILLS = ("#1b5e8c", "#7a4a9e", "#2e7d32", "#b26a00", "#5d4037", "#00838f", "#ad1457")
-_LEFT, _WIDE, _GAP = 0.09, 0.87, 0.09  # of the figure's width, between grades the last
+_SHEET = (10.5, 6.5)  # inches: as it is saved it stands in a window of 1,280 x 800
+_LEFT, _WIDE, _BESIDE, _GAP = 0.075, 0.67, 0.012, 0.09  # of its width; between grades of the row's
+_TONNES, _GRADES, _MONEY = (3.75, 2.12), (2.55, 0.68), (0.55, 1.6)  # foot and height, in inches
+_LETTERS, _WORDS = (9.0, 8.0, 7.0, 6.0, 5.0), 27  # of a legend: points, letters in a line
 _POINTS, _OUTLINE, _CASING = 72, 0.9, 3.6  # of an inch; of a period's outline, at most
-_MOST_COLUMNS, _MARGIN = 5, 0.08  # of the legend below the tonnes; inches beside and below it
+_MARGIN = 0.08  # inches beside and below a legend
 
 
 def by_year(schedule: Schedule, years: pd.DataFrame) -> Figure:
     """Ore and waste of each period beside the rates; below them the grades of its ore, its cash
-    flow, and what all so far are worth beside the bound.
+    flow, and what all so far are worth beside the bound. What stays in the ground is said above.
 
     Parameters
     ----------
@@ -56,9 +61,8 @@ def by_year(schedule: Schedule, years: pd.DataFrame) -> Figure:
     years : DataFrame
         As `Tables.years` gives it.
     """
-    figure = Figure(figsize=(10.5, 10.8))
-    tonnes = figure.add_axes((_LEFT, 0.66, _WIDE, 0.29))
-    money = figure.add_axes((_LEFT, 0.12, _WIDE, 0.26))
+    figure = Figure(figsize=_SHEET)
+    tonnes, money = (_axes(figure, row) for row in (_TONNES, _MONEY))
     _add_tonnes(tonnes, schedule, years)
     _add_money(money, schedule, years)
     grades = _add_grades(figure, schedule, years)
@@ -70,48 +74,72 @@ def by_year(schedule: Schedule, years: pd.DataFrame) -> Figure:
     for axes in (tonnes, money):
         axes.yaxis.set_major_formatter(SEPARATED)
     money.set_xlabel("Period" if schedule.production.terms.per_year > 1 else "Year")
-    name = schedule.shells.study.model.name
-    tonnes.set_title(f"{name}: schedule, at most {schedule.gap_text} below the best", fontsize=12)
-    _make_room(figure, tonnes, _add_legend(figure, tonnes), grades[0])
+    _add_title(tonnes, schedule, years)
+    _add_legends(figure, [(tonnes, tonnes.containers[::-1]), (money, money.containers)])
     return figure
 
 
-def _add_legend(figure: Figure, axes: Any) -> Any:
-    """A legend below the tonnes, in as many columns as the figure is wide enough for."""
-    margin = _MARGIN * figure.dpi
-    for columns in range(_MOST_COLUMNS, 0, -1):
-        legend = axes.legend(
-            loc="upper center", bbox_to_anchor=(0.5, -0.08), ncol=columns, frameon=False
+def _axes(figure: Figure, row: tuple[float, float], share: float = 1.0, at: float = 0.0) -> Any:
+    """Axes in a row of the sheet, by its foot and its height: all of its width, or a share of it
+    from some place on."""
+    foot, high = (length / _SHEET[1] for length in row)
+    return figure.add_axes((_LEFT + at * _WIDE, foot, share * _WIDE, high))
+
+
+def _add_title(axes: Any, schedule: Schedule, years: pd.DataFrame) -> None:
+    """Whose schedule it is and how good; below it what of the pit stays in the ground, if anything
+    does."""
+    study, left = schedule.shells.study, schedule.left()
+    name = f"{name_of(study)}: schedule, at most {schedule.gap_text} below the best"
+    axes.set_title(name, fontsize=12, pad=22 if left.blocks else 6)
+    if left.blocks:
+        rock = printed_scale(years["rock_t"], study.model.units.weight)
+        axes.annotate(
+            left.words(rock, study.currency),
+            (0.5, 1),
+            (0, 7),
+            xycoords="axes fraction",
+            textcoords="offset points",
+            ha="center",
+            fontsize=10,
         )
-        taken = legend.get_window_extent()
-        if taken.x0 >= margin and taken.x1 <= figure.bbox.width - margin:
-            break
-    return legend
 
 
-def _make_room(figure: Figure, tonnes: Any, legend: Any, grades: Any) -> None:
-    """A figure that is higher by what the legend would print over the title of the grades: each
-    process is three entries of it."""
-    top = grades.get_tightbbox(FigureCanvasAgg(figure).get_renderer()).y1
-    lacks = top / figure.dpi + _MARGIN - legend.get_window_extent().y0 / figure.dpi
-    if lacks <= 0:
-        return
-    wide, high = figure.get_size_inches()
-    places = {axes: axes.get_position() for axes in figure.axes}
-    figure.set_size_inches(wide, high + lacks)
-    for axes, at in places.items():
-        up = at.y0 * high + (lacks if axes is tonnes else 0.0)
-        share = 1 / (high + lacks)
-        axes.set_position((at.x0, up * share, at.width, at.height * high * share))
+def _add_legends(figure: Figure, rows: Iterable[tuple[Any, Iterable[Any]]]) -> None:
+    """Beside each axes what is drawn there, their bars first, in the order in which they are given.
+    A legend stands below one that is higher than its own axes, and all are in smaller letters where
+    there is no room."""
+    margin = _MARGIN * figure.dpi
+    for size in _LETTERS:
+        free, is_enough = 1.0, True
+        for axes, bars in rows:
+            named = dict(zip(*reversed(axes.get_legend_handles_labels())))
+            labels = list(dict.fromkeys([*(bar.get_label() for bar in bars), *named]))
+            legend = axes.legend(
+                [named[label] for label in labels],
+                ["\n".join(textwrap.wrap(label, _WORDS)) for label in labels],
+                loc="upper left",
+                bbox_to_anchor=(_LEFT + _WIDE + _BESIDE, min(free, axes.get_position().y1)),
+                bbox_transform=figure.transFigure,
+                borderaxespad=0,
+                borderpad=0,
+                frameon=False,
+                fontsize=size,
+            )
+            box = legend.get_window_extent()
+            free = (box.y0 - margin) / figure.bbox.height
+            is_enough = is_enough and free >= 0 and box.x1 + margin <= figure.bbox.width
+        if is_enough:
+            return
 
 
 def _add_grades(figure: Figure, schedule: Schedule, years: pd.DataFrame) -> list[Any]:
     """The grade of each metal in the ore of each period, each metal at a scale of its own."""
     metals = schedule.shells.study.manifest["metals"]
-    each = (_WIDE - _GAP * (len(metals) - 1)) / len(metals)
+    each = (1 - _GAP * (len(metals) - 1)) / len(metals)
     made = []
     for i, (name, units) in enumerate(metals.items()):
-        axes = figure.add_axes((_LEFT + i * (each + _GAP), 0.45, each, 0.12))
+        axes = _axes(figure, _GRADES, each, i * (each + _GAP))
         axes.plot(
             years["period"],
             years[f"grade_{name}"],
@@ -122,9 +150,10 @@ def _add_grades(figure: Figure, schedule: Schedule, years: pd.DataFrame) -> list
         )
         axes.margins(y=0.15)
         axes.set_ylim(bottom=0)
-        axes.set_ylabel(f"{name} ({units['grade_unit']})")
+        axes.locator_params(axis="y", nbins=3)
+        axes.set_title(f"{name} ({units['grade_unit']})", fontsize=10, loc="left")
         made.append(axes)
-    made[0].set_title("Grade of ore", fontsize=10, loc="left")
+    made[0].set_ylabel("Grade\nof ore")
     return made
 
 
@@ -216,8 +245,7 @@ def _add_money(axes: Any, schedule: Schedule, years: pd.DataFrame) -> None:
         label="No schedule brings more",
     )
     axes.axhline(0, color="black", linewidth=0.6)
-    axes.set_ylabel(f"Worth at factor 1 ({unit.unit})")
-    axes.legend(loc="upper center", bbox_to_anchor=(0.5, -0.17), ncol=4, frameon=False)
+    axes.set_ylabel(f"Worth at factor 1\n({unit.unit})")
 
 
 def middle_of(schedule: Schedule) -> tuple[float, int]:
@@ -295,6 +323,6 @@ def _draw(schedule: Schedule, cut: Plane, exaggeration: float) -> tuple[Figure, 
     for each in (axes.xaxis, axes.yaxis):
         each.set_major_formatter(SEPARATED)
     axes.locator_params(axis="x", nbins=7)
-    title = f"{model.name}: {cut.title}, by {colours.label.lower()}"
+    title = f"{name_of(schedule.shells.study)}: {cut.title}, by {colours.label.lower()}"
     axes.set_title(title + second_line(cut, exaggeration), fontsize=12)
     return figure, axes

@@ -10,7 +10,17 @@ import pandas as pd
 from ..base.units_shown import lengths, printed_scale, scale_of
 from ..schedule.tables import binds_text
 from .pit_surfaces import surfaces
-from .page_views import ViewTable, View, by_kinds, grade_texts, rock_and_metal, scaled
+from .page_views import (
+    Columns,
+    ViewTable,
+    View,
+    beside,
+    by_kinds,
+    grade_texts,
+    rock_and_metal,
+    scaled,
+    so_far,
+)
 
 if TYPE_CHECKING:
     from ..schedule.plan import Schedule
@@ -51,18 +61,14 @@ def schedule(schedule: Schedule, years: pd.DataFrame) -> View:
         for name in names
     }
     own = {name: (schedule.period == int(name) - 1) & study.model.is_rock for name in names}
-    money, left = scale_of(years["npv"], currency), schedule.left()
-    rock = printed_scale(years["rock_t"], study.model.units.weight)
+    left, rock = schedule.left(), printed_scale(years["rock_t"], study.model.units.weight)
+    running = scaled("Net present value so far", years["npv"], scale_of(years["npv"], currency))
     columns = [
-        ("Blocks", [f"{v:,}" for v in years["blocks"]]),
-        (f"Down to ({study.model.units.length})", lengths(years["bottom"])),
-        *rock_and_metal(years, study.manifest["metals"], study.model.units.weight),
-        *(column for name in processes for column in _by_process(study, years, name)),
-        scaled("Cash flow", years["cash_flow"], money),
-        scaled("Discounted", years["discounted"], money),
-        scaled("Net present value so far", years["npv"], money),
+        *_dug(study, years, years),
+        running,
         ("Rate that binds", [binds_text(row, True) or "-" for row in years.to_dict("records")]),
     ]
+    sums = _dug(study, so_far(years, study.manifest["metals"], processes), years)
     return View(
         f"Schedule by {word}s",
         f"After {word}",
@@ -81,16 +87,37 @@ def schedule(schedule: Schedule, years: pd.DataFrame) -> View:
             *([schedule.end.words[0].upper() + schedule.end.words[1:]] if schedule.end else []),
             *([_NO_CLASSES.format(there=there)] if terms.is_by_year and study.classes else []),
         ],
-        more=[] if terms.is_by_year else by_kinds(study, own),
+        more=[] if terms.is_by_year else by_kinds(study, word.capitalize(), own),
+        sides=beside(columns, sums, [running]),
     )
 
 
-def _by_process(study: Study, years: pd.DataFrame, name: str) -> Iterator[tuple[str, list[str]]]:
-    """What a process gets in each period: ore in place, its feed, and the grades of that ore."""
+def _dug(study: Study, rows: pd.DataFrame, years: pd.DataFrame) -> Columns:
+    """What each row of a table as `Tables.years` digs and earns, at the scales of the years."""
+    money = scale_of(years["npv"], study.currency)
+    return [
+        ("Blocks", [f"{v:,}" for v in rows["blocks"]]),
+        (f"Down to ({study.model.units.length})", lengths(rows["bottom"])),
+        *rock_and_metal(rows, study.manifest["metals"], study.model.units.weight, years),
+        *(
+            column
+            for name in study.priced.process_names
+            for column in _by_process(study, rows, years, name)
+        ),
+        scaled("Cash flow", rows["cash_flow"], money),
+        scaled("Discounted", rows["discounted"], money),
+    ]
+
+
+def _by_process(
+    study: Study, rows: pd.DataFrame, years: pd.DataFrame, name: str
+) -> Iterator[tuple[str, list[str]]]:
+    """What a process gets in each row: ore in place, its feed, and the grades of that ore."""
     before, weight = f"process_{name}_", study.model.units.weight
     rock = scale_of(years["ore_t"] + years["waste_t"], weight)
-    yield scaled(f"Ore to {name}", years[f"{before}ore_t"], rock)
-    yield scaled(f"Feed of {name}", years[f"{before}feed_t"], rock)
+    yield scaled(f"Ore to {name}", rows[f"{before}ore_t"], rock)
+    yield scaled(f"Feed of {name}", rows[f"{before}feed_t"], rock)
     for metal, units in study.manifest["metals"].items():
-        texts = grade_texts(years[f"{before}grade_{metal}"])
+        grade = f"{before}grade_{metal}"
+        texts = grade_texts(rows[grade], years[grade])
         yield f"Grade of ore to {name}, {metal} ({units['grade_unit']})", texts

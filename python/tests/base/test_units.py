@@ -182,7 +182,7 @@ def test_classes_say_their_units(tmp_path):
         tonnes = sum(row["TONNES"] for row in rows if row["CLASS"] == line["class"])
         assert line["Mst"] == pytest.approx(tonnes / 1e6)
     assert len(lines) == 2
-    (of_page,) = page_views.by_kinds(study, sets)
+    (of_page,) = page_views.by_kinds(study, "Factor", sets)
     assert "Strip ratio (st/st)" in [name for name, _ in of_page.columns]
     (of_report,) = contents.of_classes(shells)
     assert {c.unit for c in of_report.columns if c.name.endswith("in place")} == {"st"}

@@ -57,7 +57,7 @@ def test_the_command_goes_on_and_its_tables(tmp_path, program):
     assert f"that of {richest} is worth most on the mean" in " ".join(said.split())
     assert (folder / "out/likelihood.png").read_bytes().startswith(b"\x89PNG")
     assert (
-        "<title>t: likelihood over 4 realisations</title>"
+        f"<title>{folder.name}: likelihood over 4 realisations</title>"
         in (folder / "out/likelihood.html").read_text()
     )
 

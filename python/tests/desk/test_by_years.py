@@ -69,6 +69,46 @@ def test_a_plan_by_years_is_shown_and_saved(planned):
         desk.end()
 
 
+SHOWN = """
+const [main, all] = [document.getElementById("main"), [...document.querySelectorAll("#main :is(img, iframe)")]];
+if (all.length < 4 || !all.every(e => e.naturalWidth !== 0)) return null;
+return all.map(e => [e.alt ?? e.className, e.getBoundingClientRect().height / main.clientHeight]);
+"""
+OUT_OF_SIGHT = (
+    "return [...document.querySelectorAll('.scroll')].map(e => e.scrollWidth - e.clientWidth)"
+)
+
+
+def test_the_years_come_first_and_nothing_is_beside_the_screen(planned):
+    desk, browser = Desk(planned.parent), Chromium("1024,700")
+    try:
+        browser.get(desk.door)
+        browser.sees("below its bound")
+        assert browser.script(OUT_OF_SIGHT) == [0]  # of the studies, to the last button
+        wide = "return document.getElementById('nav').offsetWidth"
+        widths = set()  # study.toml is beside some of them
+        for screen in ("pits/run", "pits/page", "history"):
+            browser.get(f"{desk.address}/#/planned/{screen}")
+            widths.add(browser.script(wide))
+        assert len(widths) == 1
+        browser.resized(1280, 800)
+        browser.get(f"{desk.address}/#/planned/pits/years")
+        shown = browser.until(lambda: browser.script(SHOWN), "the pictures")
+        assert [name.split("-")[0:2] for name, _ in shown[:2]] == [
+            ["out/schedule", "years.png"],
+            ["page"],
+        ]
+        kinds = {name.removeprefix("out/schedule-").split("-")[0] for name, _ in shown[2:]}
+        assert kinds == {"plan", "section"}
+        assert 0.3 < shown[0][1] < 1  # of the window, below the head of the page
+        assert "least width for machines, in m" in browser.text("#main")
+        browser.get(f"{desk.address}/#/planned/pushbacks")
+        browser.sees("least width for machines, in m")
+    finally:
+        browser.close()
+        desk.end()
+
+
 def test_a_plan_by_years_is_found_and_the_model_is_saved_for_other_optimisers(tmp_path):
     study = built(tmp_path / "mines" / "hill", terms="")
     desk, browser = Desk(study.parent), Chromium()

@@ -66,6 +66,21 @@ def test_a_grade_that_no_metal_uses_is_told_and_added_with_marks(browser, begin)
     browser.until(lambda: marked(browser, 2) == set(), "no mark")
 
 
+def test_columns_of_metals_have_units_and_the_size_of_a_block_is_in_a_line(browser, begin):
+    begin(HILL)
+    browser.there("[id='i.model.size.2']")
+    tops = "return [0, 1, 2].map(k => document.getElementById(`i.model.size.${k}`).offsetTop)"
+    assert len(set(browser.script(tops))) == 1
+    browser.click("[id='to.money']")
+    browser.there(".metals th")
+    heads = (
+        "return [...document.querySelectorAll('.metals thead th')].map(e => e.textContent.trim())"
+    )
+    assert {"Price $", "Payable share", "Selling $ a unit"} <= set(browser.script(heads))
+    browser.types("i.economics.metals.1.currency", "EUR")
+    assert {"Price", "Selling"} <= set(browser.script(heads))  # in dollars of one metal alone
+
+
 def test_gold_by_its_name_is_gold_and_what_is_taken_out_is_told(browser, begin):
     study = begin(HILL.replace(",AU,", ",gold gpt,", 1))
     browser.sees("5,041 rows")

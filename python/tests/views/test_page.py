@@ -124,11 +124,14 @@ def text_of(browser, name):
     return browser.find_element(By.ID, name).text
 
 
-def facts(browser):
-    names, values = browser.execute_script(
-        "return ['dt', 'dd'].map(tag => [...document.querySelectorAll('#facts ' + tag)].map(e => e.innerText.trim()))"
+def facts(browser, side=1):
+    """What is told beside the picture: in its first column, or in another."""
+    return dict(
+        browser.execute_script(
+            "return [...document.querySelectorAll('#facts tbody tr')].map(r => [0, arguments[0]].map(k => r.cells[k].innerText.trim()))",
+            side,
+        )
     )
-    return dict(zip(names, values))
 
 
 def number(text):
@@ -152,7 +155,7 @@ def has(words, name, value):
 
 def rows_of(browser, table=0):
     return browser.execute_script(
-        "const t = [...document.querySelectorAll('table')].filter(t => t.offsetParent); return [...t[arguments[0]].tBodies[0].rows].map(r => [...r.cells].map(c => c.innerText.trim()))",
+        "const t = [...document.querySelectorAll('#tables table')].filter(t => t.offsetParent); return [...t[arguments[0]].tBodies[0].rows].map(r => [...r.cells].map(c => c.innerText.trim()))",
         table,
     )
 
@@ -169,7 +172,7 @@ def test_it_opens_without_a_word_on_the_console(pits_view, shells):
 
 def test_the_slider_goes_by_keys(pits_view, shells):
     slider(pits_view).send_keys(Keys.HOME)
-    assert text_of(pits_view, "step") == "none: the ground as it is"
+    assert text_of(pits_view, "step") == "The ground as it is"
     assert set(facts(pits_view).values()) == {"-"}
     assert not pits_view.find_elements(By.CSS_SELECTOR, "tr[aria-current]")
     for factor in ("0.60", "0.80", "1.00", "1.20"):
@@ -244,6 +247,36 @@ def test_facts_of_a_pushback_are_its_own(phases_view, phases):
                 ("Worth at factor 1", "worth"),
             )
         ), shown
+
+
+def test_beside_a_pushback_stand_all_up_to_it(phases_view, phases):
+    slider(phases_view).send_keys(Keys.HOME)
+    for k in (1, 2):
+        slider(phases_view).send_keys(Keys.ARROW_RIGHT)
+        shown = facts(phases_view, 2)
+        heads = phases_view.execute_script(
+            "return [...document.querySelectorAll('#facts thead th')].map(e => e.textContent)"
+        )
+        assert heads == [
+            f"pushback\N{NO-BREAK SPACE}{k} alone",
+            f"up to pushback\N{NO-BREAK SPACE}{k}",
+        ]
+        here, study = (phases.pushback > 0) & (phases.pushback <= k), phases.shells.study
+        b = study.model.blocks[here]
+        assert number(shown["Blocks"]) == here.sum()
+        assert has(shown, "Ore", b.tonnes[study.priced.treated(1000)[here]].sum())
+        assert has(shown, "Worth at factor 1", float(study.priced.worth_of(here, 1000)))
+        toe, crest = 100 - 15 / 2 + 15 * b.iz.min(), 100 + 15 / 2 + 15 * b.iz.max()
+        assert (number(shown["Down to (m)"]), number(shown["From (m)"])) == (toe, crest)
+        alone = ("Factor of its pit", "Benches", "Thinnest (m)")  # these aren't added up
+        assert [shown[name] for name in alone] == [""] * 3
+
+
+def test_a_pit_has_one_column_of_facts(pits_view):
+    assert not pits_view.find_element(By.CSS_SELECTOR, "#facts thead").is_displayed()
+    assert pits_view.execute_script(
+        "return [...document.querySelectorAll('#facts tbody tr')].every(r => r.cells.length === 2)"
+    )
 
 
 def test_facts_of_a_design_and_of_the_best_pit(design_view, shells, compared):
@@ -835,7 +868,7 @@ def shares_of(risk):
 
 def test_pits_by_likelihood(likelihood_view, risk):
     browser, hits, model = likelihood_view, shares_of(risk), risk.study.model
-    assert browser.title == f"{model.name}: likelihood over 5 realisations"
+    assert browser.title == f"{risk.study.folder.name}: likelihood over 5 realisations"
     assert browser.get_log("browser") == []
     assert text_of(browser, "step") == "50%"
     assert not browser.find_element(By.ID, "which").is_displayed()
@@ -1060,7 +1093,7 @@ def test_firefox(file, shells, compared):
         assert firefox.execute_script("return document.getElementById('none').hidden")
         seen = []
         for keys, factor in (
-            ("\ue011", "none: the ground as it is"),
+            ("\ue011", "The ground as it is"),
             ("\ue014", "0.60"),
             ("\ue010", "1.20"),
         ):
@@ -1075,7 +1108,9 @@ def test_firefox(file, shells, compared):
             seen.append(picture)
         assert len(set(seen)) == 3
         assert (
-            firefox.execute_script("return document.querySelector('#facts dd').textContent")
+            firefox.execute_script(
+                "return document.querySelector('#facts td:nth-child(2)').textContent"
+            )
             == f"{shells.verdicts[-1]['count']:,}"
         )
         firefox.press("#what", "\ue010")
@@ -1085,7 +1120,9 @@ def test_firefox(file, shells, compared):
             )
         )
         assert (
-            firefox.execute_script("return document.querySelector('#facts dd').textContent")
+            firefox.execute_script(
+                "return document.querySelector('#facts td:nth-child(2)').textContent"
+            )
             == f"{compared.design.held.sum():,}"
         )
         firefox.press("#way", "\ue010")

@@ -1,7 +1,21 @@
 """What the page shows of each view."""
+import two_ways
 from mines import study_of, table as mine
+from pitplan import Study
+from pitplan.study.study_file import read_study_file
 from pitplan.views import page_views
 from pitplan.plans.phases import Phases
+
+
+def test_tables_by_process_say_what_their_rows_are_of(tmp_path):
+    """A row such as "1, mill" is of a pushback, and "0.60, mill" of a factor."""
+    plan = read_study_file(two_ways.written(tmp_path / "s"))
+    Study.create(tmp_path / "s", plan.read_model(), plan.economics, plan.slopes)
+    shells = Study(tmp_path / "s").shells([600, 1000])
+    (pits,) = page_views.pits(shells, shells.table()).more
+    (pushbacks,) = page_views.phases(Phases(shells)).more
+    assert (pits.first, pits.names[0]) == ("Factor, to", "0.60, mill")
+    assert (pushbacks.first, pushbacks.names[0]) == ("Pushback, to", "1, mill")
 
 
 def test_air_within_rock_is_no_overhang(tmp_path):

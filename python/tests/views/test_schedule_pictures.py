@@ -1,4 +1,5 @@
 """What the pictures of a schedule show is what its tables have."""
+import copy
 from types import SimpleNamespace
 
 import mines
@@ -11,7 +12,8 @@ from pitplan import Study
 from pitplan.schedule import Schedule
 from pitplan.schedule.tables import Tables
 from pitplan.study.study_file import read_study_file
-from pitplan.views import schedule_pictures
+from PIL import Image
+from pitplan.views import pictures, schedule_pictures
 
 
 def drawn(folder, text):
@@ -26,10 +28,18 @@ def drawn(folder, text):
     return figure, figure.axes[0].get_legend().get_texts()
 
 
+def boxes(artists):
+    return [artist.get_window_extent() for artist in artists]
+
+
+def overlap(a, b):
+    return a.x0 < b.x1 and b.x0 < a.x1 and a.y0 < b.y1 and b.y0 < a.y1
+
+
 @pytest.mark.parametrize(
     "third", ["flotation", "flotation of sulphides in the north"], ids=["short", "long"]
 )
-def test_entries_of_three_processes_stand_within_the_picture_and_above_the_grades(tmp_path, third):
+def test_entries_of_three_processes_stand_within_the_picture_beside_what_is_drawn(tmp_path, third):
     way = f"""[[economics.processes]]
 name = "{third}"
 rocks = ["SUL"]
@@ -41,20 +51,67 @@ rate = 90e3
     figure, texts = drawn(
         tmp_path / "s", two_ways.TEXT.replace("[slopes]", way).replace("8500", "20000")
     )
-    said = {text.get_text() for text in texts}
+    said = {text.get_text().replace("\n", " ") for text in texts}
     assert {f"Ore to {third}", f"Feed of {third}", f"Feed that {third} may get"} <= said
     assert len(said) == 11  # three of each process, rock that may be dug, and waste
-    tonnes, money, *grades = figure.axes
-    title = grades[0]._left_title
-    assert title.get_text() == "Grade of ore"
-    over = title.get_window_extent().y1
-    ticks = min(tick.get_window_extent().y0 for tick in tonnes.get_xticklabels())
-    for text in texts:
-        box = text.get_window_extent()
-        assert over < box.y0 < box.y1 < ticks, text.get_text()
-        assert 0 < box.x0 < box.x1 < figure.bbox.width, text.get_text()
-    assert money.get_window_extent().y1 < min(a.get_window_extent().y0 for a in grades)
-    assert tonnes.title.get_window_extent().y1 < figure.bbox.height
+    named = [each for axes in figure.axes[:2] for each in axes.get_legend().get_texts()]
+    assert len(named) == 15  # the money's four too
+    shown, plots = boxes(named), plots_of(figure)
+    for i, box in enumerate(shown):
+        assert 0 < box.x0 < box.x1 < figure.bbox.width
+        assert 0 < box.y0 < box.y1 < figure.bbox.height
+        assert not any(overlap(box, other) for other in [*plots, *shown[:i]])
+    assert min(text.get_size() for text in texts) >= 8
+
+
+def plots_of(figure):
+    """What each of its axes takes with ticks and titles, without its legend."""
+    for axes in figure.axes:
+        if axes.get_legend():
+            axes.get_legend().set_in_layout(False)
+    return [axes.get_tightbbox() for axes in figure.axes]
+
+
+def test_a_picture_of_two_processes_has_room_in_a_usual_window(tmp_path):
+    """As it is saved: 1,280 points across, 800 high. No row reaches into the next."""
+    figure, texts = drawn(tmp_path / "s", two_ways.TEXT)
+    with Image.open(pictures.save(figure, tmp_path / "years.png")) as saved:
+        wide, high = saved.size
+    assert 1000 < wide <= 1280
+    assert 600 < high <= 800
+    FigureCanvasAgg(figure).draw()
+    tonnes, money, *grades = plots_of(figure)
+    assert max(box.y1 for box in grades) < tonnes.y0 < tonnes.y1 < figure.bbox.height
+    assert 0 < money.y0 < money.y1 < min(box.y0 for box in grades)
+    assert all(box.x0 > 0 for box in (tonnes, money, *grades))
+    assert all(text.get_size() == 9 for text in texts)
+
+
+def test_what_stays_in_the_ground_is_said_in_the_picture(found):
+    """The blocks of the last year, as of a plan that doesn't dig them: their tonnes by the model."""
+    years, made = Tables(found).years(), copy.copy(found)
+    whole = schedule_pictures.by_year(found, years).axes[0]
+    assert not any("in the ground" in text.get_text() for text in whole.texts)
+    last = found.period == found.period.max()
+    object.__setattr__(made, "period", np.where(last, -1, found.period))
+    figure = schedule_pictures.by_year(made, Tables(made).years())
+    axes, model = figure.axes[0], found.shells.study.model
+    stays = last & model.is_rock
+    (line,) = [text for text in axes.texts if "in the ground" in text.get_text()]
+    assert line.get_text().startswith(f"{stays.sum():,} blocks of the pit stay in the ground, ")
+    tonnes = model.blocks.tonnes.to_numpy()[stays].sum()
+    assert f" {tonnes / 1e3:,.2f} kt worth $ " in line.get_text()
+    FigureCanvasAgg(figure).draw()
+    title, box = axes.title.get_window_extent(), line.get_window_extent()
+    assert axes.get_window_extent().y1 < box.y0 < box.y1 <= title.y0 < title.y1 < figure.bbox.height
+    assert 0 < box.x0 < box.x1 < figure.bbox.width
+
+
+def test_pictures_are_named_after_the_study_and_not_after_its_table(found):
+    """Its folder is s, its table t.csv."""
+    years = schedule_pictures.by_year(found, Tables(found).years())
+    section = schedule_pictures.section(found, schedule_pictures.middle_of(found)[1])
+    assert [each.axes[0].get_title()[:2] for each in (years, section)] == ["s:"] * 2
 
 
 def heights(axes, label):
@@ -84,7 +141,8 @@ def test_bars_are_the_years_and_lines_the_rates_and_the_bound(found):
     assert line(money, "No schedule brings more")[0] * unit == pytest.approx(float(found.bound))
     assert found.gap_text in tonnes.get_title()
     assert grades.lines[0].get_ydata().tolist() == pytest.approx(years.grade_copper.tolist())
-    assert grades.get_ylabel() == "copper (%)"
+    assert grades.get_title("left") == "copper (%)"
+    assert grades.get_ylabel() == "Grade\nof ore"
     assert grades.get_ylim()[0] == 0
 
 
@@ -127,7 +185,7 @@ def thin(tmp_path_factory):
     mines.table(64, 5, 12, 3).to_csv(folder / "t.csv", index=False)
     model = pp.read_table(folder / "t.csv", size=mines.SIZE)
     years = SimpleNamespace(
-        shells=SimpleNamespace(study=SimpleNamespace(model=model)),
+        shells=SimpleNamespace(study=SimpleNamespace(model=model, folder=folder)),
         period=model.blocks.iz.to_numpy() - 2,
         production=SimpleNamespace(terms=SimpleNamespace(per_year=1)),
     )

@@ -4,11 +4,12 @@ import math
 from dataclasses import replace
 
 import numpy as np
+import pandas as pd
 import pytest
 from pitplan import PlanError
 from pitplan.schedule.tables import Tables
 from pitplan.views import page, schedule_view
-from pitplan.views.page_views import ViewTable
+from pitplan.views.page_views import ViewTable, beside, so_far
 
 
 def of_rows(found):
@@ -66,6 +67,116 @@ def test_amounts_of_the_page_are_those_of_the_rows_of_each_year(found):
         divisor = unit[one[0].partition("(")[2].rstrip(")").split()[0]]
         shown = [float(text.replace(",", "")) for text in one[1]]
         assert shown == pytest.approx((wanted / divisor).tolist(), abs=0.006), name
+
+
+def test_what_all_years_so_far_come_to():
+    """By hand. In the second of three years no ore is dug, in the third nothing."""
+    years = pd.DataFrame(
+        {
+            "blocks": [3, 2, 0],
+            "rock_t": [150.0, 50.0, 0.0],
+            "ore_t": [100.0, 0.0, 0.0],
+            "waste_t": [50.0, 50.0, 0.0],
+            "feed_t": [90.0, 0.0, 0.0],
+            "strip": [0.5, np.nan, np.nan],
+            "grade_gold": [2.0, np.nan, np.nan],
+            "metal_gold": [180.0, 0.0, 0.0],
+            "cash_flow": [70.0, -20.0, 0.0],
+            "bottom": [30.0, 40.0, np.nan],
+            "npv": [60.0, 45.0, 45.0],
+        }
+    )
+    last = so_far(years, ["gold"]).iloc[-1].to_dict()
+    assert last == {
+        "blocks": 5,
+        "rock_t": 200.0,
+        "ore_t": 100.0,
+        "waste_t": 100.0,
+        "feed_t": 90.0,
+        "strip": 1.0,
+        "grade_gold": 2.0,
+        "metal_gold": 180.0,
+        "cash_flow": 50.0,
+        "bottom": 30.0,
+        "npv": 45.0,
+    }
+
+
+def test_grades_so_far_are_by_tonnes_of_ore_of_each_process():
+    """By hand: 100 t of 2 and 300 t of 1 are 400 t of 1.25; of the leach 50 t of 0.4, then none."""
+    years = pd.DataFrame(
+        {
+            "ore_t": [150.0, 300.0],
+            "waste_t": [0.0, 900.0],
+            "feed_t": [150.0, 300.0],
+            "grade_gold": [22 / 15, 1.0],
+            "metal_gold": [0.0, 0.0],
+            "bottom": [1.0, 1.0],
+            "process_mill_ore_t": [100.0, 300.0],
+            "process_mill_feed_t": [100.0, 300.0],
+            "process_mill_grade_gold": [2.0, 1.0],
+            "process_mill_metal_gold": [150.0, 200.0],
+            "process_leach_ore_t": [50.0, 0.0],
+            "process_leach_feed_t": [50.0, 0.0],
+            "process_leach_grade_gold": [0.4, np.nan],
+            "process_leach_metal_gold": [10.0, 0.0],
+        }
+    )
+    last = so_far(years, ["gold"], ["mill", "leach"]).iloc[-1]
+    assert last["process_mill_grade_gold"] == pytest.approx(1.25)
+    assert last["process_leach_grade_gold"] == pytest.approx(0.4)
+    assert last["process_mill_metal_gold"] == 350.0
+    assert last["grade_gold"] == pytest.approx(520 / 450)
+    assert last["strip"] == pytest.approx(2.0)
+
+
+def test_sums_stand_beside_what_a_year_has_alone():
+    columns = [("Blocks", ["3", "2"]), ("So far", ["1", "4"]), ("Binds", ["mill", "-"])]
+    sides = beside(columns, [("Blocks", ["3", "5"])], columns[1:2])
+    assert sides == [
+        (["3", "2"], ["3", "5"]),
+        (["", ""], ["1", "4"]),
+        (["mill", "-"], ["", ""]),
+    ]
+
+
+SHOWN = """show(arguments[0]); return [...document.getElementById("facts").rows].map(
+    row => [...row.cells].map(cell => cell.textContent))"""
+
+
+def test_the_page_says_what_a_year_has_alone_and_what_all_up_to_it_have(found, tmp_path):
+    """Blocks are counted in the schedule; what all years are worth is what `pit schedule` says."""
+    browsers = pytest.importorskip("browsers", reason="selenium isn't there")
+    view = schedule_view.schedule(found, Tables(found).years())
+    path = page.write_views(tmp_path / "s.html", found.shells.study, [view], "schedule")
+    period, last = found.period[found.shells.study.model.is_rock], len(view.labels)
+    still = f"year\N{NO-BREAK SPACE}{last}"  # as it stands there without JavaScript
+    assert f">{still} alone</th>" in path.read_text()
+    assert f">up to {still}</th>" in path.read_text()
+    browser = browsers.chromium()
+    try:
+        browsers.opened(browser, path)
+        for year in range(1, last + 1):
+            heads, *rows = browser.execute_script(SHOWN, year)
+            word = f"year\N{NO-BREAK SPACE}{year}"
+            assert heads == ["", f"{word} alone", f"up to {word}"]
+            told = {name: [alone, upto] for name, alone, upto in rows}
+            dug = [(period == year - 1).sum(), ((period >= 0) & (period < year)).sum()]
+            assert told["Blocks"] == [f"{count:,}" for count in dug]
+            assert told["Rate that binds"][1] == ""
+        worth = next(sides for name, sides in told.items() if name.startswith("Net present"))
+        assert worth == ["", f"{float(found.npv) / 1e6:,.2f}"]
+        _, *rows = browser.execute_script(SHOWN, 0)
+        assert {cell for _, *cells in rows for cell in cells} == {"-"}
+        ground = browser.find_element("id", "controls").text.split("\n")[0]
+        assert ground == "The ground as it is"  # and not after a year
+        assert not browser.find_element("css selector", "#facts thead").is_displayed()
+        size = {"width": 1024, "height": 560, "deviceScaleFactor": 1, "mobile": False}
+        browser.execute_cdp_cmd("Emulation.setDeviceMetricsOverride", size)
+        foot = "return document.getElementById('view').getBoundingClientRect().bottom"
+        assert browser.execute_script(foot) <= 560  # however much is told beside it
+    finally:
+        browser.quit()
 
 
 def test_each_word_is_that_of_the_period(found):

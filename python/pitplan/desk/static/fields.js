@@ -212,9 +212,9 @@ function tables(path, { name: list }) {
       cell(each, i, k)))))),
     h("tr", h("td", { colSpan: 8 }, faults().filter(f => isOf(f, list, each, i)).map(faultBox)))));
   return h("div", now.length > 0 && h("table.metals", h("thead", h("tr", short.map(k => h("th",
-    { title: k.help }, k.label)), h("th"))), rows), list === "processes"
-    ? small("+ a way to treat a block, as a heap leach", () => addProcess())
-    : D.look?.metals && small("+ a metal, or a penalty", () => addMetal()));
+    { title: k.help }, k.label, h("small", now.every(m => !m.currency) && ` ${unitOf(k)}`))),
+  h("th"))), rows), list === "processes" ? small("+ a way to treat a block, as a heap leach",
+    () => addProcess()) : D.look?.metals && small("+ a metal, or a penalty", () => addMetal()));
 }
 
 /** What a process has of the mill, and where that stands. */

@@ -1,8 +1,8 @@
 // The screens: each draws itself from what is known.
 import { amounts, at, button, card, chip, choice, entry, h, having, labelled, look, looks, number,
   size, small, table, tick, tip, value, when } from "./dom.js";
-import { D, agreed, api, ask, byId, draw, faults, file, go, keep, link, queue, say,
-  tab } from "./desk.js";
+import { D, agreed, api, ask, byId, draw, faults, file, go, keep, link, queue, say, tab,
+  valueOf } from "./desk.js";
 import { CALLED, banner, examples, faultBox, fields, mend, set, unused } from "./fields.js";
 import { before, boxes, byYears, chipOf, framed, linesOf, logOf, nameOf, pictures, runner, runsOf,
   years } from "./runs.js";
@@ -65,9 +65,8 @@ export function home() {
     chip(...s.said ?? ["bad", "can't be read", s.errors[0].said]), number(s.blocks), number(s.pit),
     s.worth ? `${number(s.worth / 1e6, 1)} million ${s.currency}` : "", s.plan && chip(...s.plan),
     s.when && when(s.when), small("copy", () => copy(s.name), `copy ${s.name}`)]);
-  const tables = D.home.tables.map(t => [t.path, size(t.bytes), when(t.when),
-    small("begin a study", () => begin({ table: t.path })),
-    h("code.typed", `pitplan init ${t.path}`)]);
+  const tables = D.home.tables.map(t => [t.path, size(t.bytes), when(t.when), small(
+    "begin a study", () => begin({ table: t.path })), h("code.typed", `pitplan init ${t.path}`)]);
   return [dropPlace("Drop a table of blocks here", ".csv,.gz", taken), D.naming && naming(),
     studies.length > 0 && card("Studies", table(["study", "how far", "blocks", "best pit, blocks",
       "worth", "plan by years", "changed", ""], studies, { words: 2 })),
@@ -164,16 +163,18 @@ function build() {
 }
 
 const ends = { gap: null, minutes: null, mining_width: null };
+const least = () => `least width for machines, in ${valueOf(["model", "units"])?.length ?? "m"}`;
 const plan = () => [banner(), card("Terms of the plan", fields("schedule")),
   needed() || card("Run", boxes(ends, {
   gap: ["end within so many percent of the bound", { placeholder: "0.1" }, value],
   minutes: ["or after so many minutes", { placeholder: "30" }, value],
-  mining_width: ["least width for machines", {}, value] }),
+  mining_width: [least(), {}, value] }),
 runner("schedule", "Find a plan by years", { what: "schedule", ...ends },
   { needs: true, main: true })),
 (p => p && h(["good", ""].includes(p[0]) ? "p" : "p.look.before", p[2]))(D.study.state.plan),
-runsOf("schedule"), framed("out/schedule.html", "the plan by years in three dimensions"),
-pictures(f => /^out\/schedule[^/]*\.png$/.test(f.path))];
+runsOf("schedule"), pictures(f => f.path === "out/schedule-years.png"),
+framed("out/schedule.html", "the plan by years in three dimensions"),
+pictures(f => /^out\/schedule-[ps][^/]*\.png$/.test(f.path))];
 
 function page() {
   const { there, old, schedule } = D.study.state;
@@ -230,8 +231,7 @@ function pushbacks() {
   const factors = [...wanted.factors].sort((a, b) => a - b);
   const marks = (D.study.state.factors ?? []).map(f => oneOf(`phase.${f}`, f, wanted, "factors"));
   return [needed() || card("Pits that end a pushback, by their factor",
-    h("div.grid.narrow", marks), boxes(wanted, { width: [
-      "least width for machines, in the unit of the coordinates", {}, value] }),
+    h("div.grid.narrow", marks), boxes(wanted, { width: [least(), {}, value] }),
     runner("cut", "Cut", { what: "phases", mining_width: wanted.width, factors },
       { needs: true })), runsOf("phases")];
 }

@@ -18,6 +18,7 @@ from ...base.units_shown import alike, factor_text, printed_scale, separated, sh
 from ...model.grade_tonnage import by_class, by_process, by_rock
 from ...study import edges
 from .. import pictures, slope_rose
+from ..study_names import name_of, table_of
 
 if TYPE_CHECKING:
     from matplotlib.figure import Figure
@@ -162,7 +163,7 @@ def gathered(
     phases : Phases, optional
         Pushbacks to tell of.
     title : str, optional
-        Default: the table's name.
+        Default: the study's name.
     years : Schedule, optional
         The plan by years to tell of.
 
@@ -191,7 +192,7 @@ def gathered(
     level, row = pictures.middle_of(shells)
     grid, unit = study.model.grid, study.model.units.length
     return Report(
-        title or study.model.name,
+        title or name_of(study),
         time.strftime("%Y-%m-%d %H:%M UTC", time.gmtime()),
         [*_facts_of(shells, table, chosen), *_facts_of_phases(phases), *_facts_of_years(years)],
         plan.path.read_text("utf-8-sig"),
@@ -260,7 +261,7 @@ def _facts_of(shells: Shells, table: pd.DataFrame, chosen: int) -> list[tuple[st
     grid, rock = study.model.grid, printed_scale([row.rock_t], study.model.units.weight)
     name = factor_text(shells.factors[chosen])
     found = [
-        ("Table", f"{study.table.name if study.table else study.model.name}"),
+        ("Table", table_of(study) or study.model.name),
         (
             "Blocks",
             f"{len(study.model):,} of {' x '.join(f'{v:g}' for v in grid.size)}"
