@@ -216,7 +216,7 @@ def _write_page(schedule: Schedule, years: pd.DataFrame) -> None:
     path = results(study) / "schedule.html"
     try:
         view = schedule_view.schedule(schedule, years)
-        page.write_views(path, study, [view], f"{study.model.name}: {view.name.lower()}")
+        page.write_views(path, study, [view], f"{study.title}: {view.name.lower()}")
         say(f"{path}: {path.stat().st_size / 1e6:.1f} MB, opens in any browser")
     except PlanError as error:  # as where three.js isn't there
         warn(str(error))

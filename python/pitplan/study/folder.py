@@ -97,6 +97,15 @@ class StudyFolder:
         return self.folder / source["table"] if source else None
 
     @property
+    def title(self) -> str:
+        """What headings call it: the name of its folder, and beside that the table's, or that of a
+        model of no file, where it is another."""
+        name, model = self.folder.resolve().name, self.model.name
+        if name == model or not self.table and model == Model.name:
+            return name
+        return f"{name} ({'table' if self.table else 'model'} {model})"
+
+    @property
     def currency(self) -> str:
         """Of its amounts, as study.toml calls it."""
         return str(self.manifest["currency"])

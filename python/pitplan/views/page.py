@@ -234,7 +234,7 @@ def write(
     table : DataFrame or None
         `shells.table(..)` with the user's rates; None takes the usual ones.
     title : str or None
-        The heading; None is the model's name.
+        The heading; None is `Study.title`.
     phases : Phases or None
     design : Comparison or None
 
@@ -250,8 +250,8 @@ def write(
 
 
 def heading(shells: Shells, title: str | None) -> str:
-    """The heading of a page of pits; without a title of its own it has the model's name."""
-    return f"{title or shells.study.model.name}: nested pits"
+    """The heading of a page of pits; without a title of its own it has the study's."""
+    return f"{title or shells.study.title}: nested pits"
 
 
 def views_of(
@@ -294,5 +294,5 @@ def write_likelihood(
         path,
         risk.study,
         [view],
-        f"{risk.study.model.name}: likelihood over {risk.count:,} realisations",
+        f"{risk.study.title}: likelihood over {risk.count:,} realisations",
     )

@@ -37,6 +37,9 @@ def test_plot_and_page_write_what_they_name(tmp_path):
     assert ran.returncode == 0
     assert len(paths) == 5
     assert all(p.endswith("-CU.png") and Path(p).is_file() for p in paths)
+    assert pitplan("page", folder).returncode == 0
+    text = (folder / "out/pits.html").read_text()
+    assert "<title>s (table t): nested pits</title>" in text  # the study's name and the table's
     assert pitplan("page", folder, "--title", "North pit").returncode == 0
     assert "<title>North pit: nested pits</title>" in (folder / "out/pits.html").read_text()
     refused = pitplan("plot", folder, "--bench", "5000")

@@ -53,7 +53,7 @@ def test_the_command_goes_on_and_its_tables(tmp_path, program):
     assert f"{found.table().worth_p50.iloc[1] / 1e6:,.2f}" in said
     assert (folder / "out/likelihood.png").read_bytes().startswith(b"\x89PNG")
     assert (
-        "<title>t: likelihood over 4 realisations</title>"
+        "<title>s (table t): likelihood over 4 realisations</title>"
         in (folder / "out/likelihood.html").read_text()
     )
 

@@ -1,11 +1,12 @@
 """The folder of a study: what it has, and whatever isn't as the build made it."""
 import json
 import re
+from dataclasses import replace
 
 import pytest
 
 import pitplan as pp
-from mines import study_of, table
+from mines import costs, model_of, study_of, table
 from pitplan.base.kept_json import Damaged
 from pitplan.study.folder import StudyFolder
 from pitplan.study.pair_counts import counted_pairs
@@ -25,6 +26,22 @@ def test_it_knows_its_files_and_what_it_was_built_from(made, tmp_path):
     assert list(found.offsets) == ["default", "EAST"]
     assert set(found.region.tolist()) == {0, 1}
     assert len(found.model) == len(found.priced) == found.manifest["blocks"]
+
+
+def test_its_title_is_its_own_name_with_another_one_of_the_table_beside_it(made, monkeypatch):
+    """The study is in the folder s, and its table is t.csv."""
+    assert StudyFolder(made.folder).title == "s (table t)"
+    monkeypatch.chdir(made.folder)
+    assert StudyFolder(".").title == "s (table t)"
+    path = made.folder.rename(made.folder.with_name("t"))
+    assert StudyFolder(path).title == "t"
+
+
+@pytest.mark.parametrize("name, title", [("model", "s"), ("North", "s (model North)")])
+def test_the_title_of_a_study_of_no_table_names_none(tmp_path, name, title):
+    model = replace(model_of(table(5, 4, 3, 1)), name=name, source=None)
+    study = pp.Study.create(tmp_path / "s", model, costs(), pp.Slopes(45))
+    assert StudyFolder(study.folder).title == title
 
 
 def test_a_folder_without_a_model_is_no_study(tmp_path):
