@@ -192,8 +192,11 @@ class Search:
         self.sorting.ends = ends
         highs.begin(1)  # which takes a while, before it is needed
         if self.plan is None:
-            self.tell("a first schedule, one pit of the series after the other")
-            self.take(self.sorting.by_shells())
+            self.tell("first schedules, one pit of the series after the other")
+            for plan in self.sorting.first_ones():
+                self.take(plan)
+                if time.monotonic() > ends:
+                    break
         if self.found.gap > gap:
             found = self.lower(gap, time.monotonic() + seconds * _BOUND_PART)
             if found is not None:

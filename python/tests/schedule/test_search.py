@@ -7,7 +7,7 @@ from pitplan.pit import process, program
 from pitplan.pit.program import Files, Periodic, Pit
 from pitplan.schedule import search as searching
 from pitplan.schedule.search import Search
-from tiny_mines import TinyMine
+from tiny_mines import TinyMine, five_columns
 
 FOREVER = 1e9  # seconds
 PANELS, BOTH = {"panel": 2}, {"panel": 2, "pushbacks": True, "lead": 1}
@@ -20,6 +20,11 @@ CASES = [
     *((seed, DEAR) for seed in (0, 28, 46, 48, 59)),
 ]
 LOST = [(59, ORDERED), (25, PANELS), (1, BOTH), (3, PANELS), (0, ORDERED)]
+
+
+def raised(*_):
+    """As where ctrl-C is pressed."""
+    raise KeyboardInterrupt
 
 
 def found_of(mine, folder):
@@ -48,6 +53,27 @@ def test_a_mine_that_is_not_small_enough_for_all_schedules_is_rebuilt(
     monkeypatch.setattr(searching, "is_small", lambda _: False)
     mine = TinyMine(seed, **kind)
     assert found_of(mine, tmp_path)[0] >= 0.9 * mine.best()
+
+
+def test_a_search_that_is_stopped_before_its_bound_has_a_good_schedule(tmp_path, monkeypatch):
+    """The best by hand of a mine where bench by bench no ore is reached in time."""
+    monkeypatch.setattr(searching.Search, "lower", raised)
+    made, best = five_columns()
+    search = Search(tmp_path, made, Pit())
+    with pytest.raises(KeyboardInterrupt):
+        search.run(0.0, FOREVER)
+    assert made.wrong(search.plan) == []
+    assert search.found.npv == made.npv(search.plan) == best
+
+
+def test_where_the_time_is_over_one_first_schedule_is_made(tmp_path, monkeypatch):
+    monkeypatch.setattr(searching.Search, "lower", raised)
+    made, tried = TinyMine(2, **BOTH).production, []
+    search = Search(tmp_path, made, Pit())
+    monkeypatch.setattr(search, "take", tried.append)
+    with pytest.raises(KeyboardInterrupt):
+        search.run(0.0, 0.0)
+    assert len(tried) == 1
 
 
 def test_a_first_bound_is_waited_for_and_no_later_one(tmp_path, monkeypatch):
