@@ -2,11 +2,14 @@
 is tried. Each search ends by what it counts, and none by the time."""
 from types import SimpleNamespace
 
+import numpy as np
 import pytest
 from pitplan.pit import process, program
 from pitplan.pit.program import Files, Periodic, Pit
 from pitplan.schedule import search as searching
+from pitplan.schedule.destinations import Timetable
 from pitplan.schedule.search import Search
+from pitplan.schedule.search_ends import MINUTES
 from tiny_mines import TinyMine, five_columns
 
 FOREVER = 1e9  # seconds
@@ -66,6 +69,20 @@ def test_a_search_that_is_stopped_before_its_bound_has_a_good_schedule(tmp_path,
     assert search.found.npv == made.npv(search.plan) == best
 
 
+def test_a_first_schedule_comes_back_where_none_better_is_found(tmp_path, monkeypatch):
+    """The orders of the relaxation take its place, and the time is over before swaps better them."""
+    made, best = five_columns()
+    search, told = Search(tmp_path, made, Pit()), []
+    poor = Timetable(np.full(made.units, made.periods), np.zeros(0, bool))
+    monkeypatch.setattr(search.sorting, "by_shares", lambda *_: iter([poor]))
+    monkeypatch.setattr(search, "swap", lambda *_: told.append(search.found.npv) or MINUTES)
+    monkeypatch.setattr(searching, "is_small", lambda _: False)
+    search.run(0.0, FOREVER)
+    assert told == [0]
+    assert search.found.npv == made.npv(search.plan) == best
+    assert search.end.why == MINUTES
+
+
 def test_where_the_time_is_over_one_first_schedule_is_made(tmp_path, monkeypatch):
     monkeypatch.setattr(searching.Search, "lower", raised)
     made, tried = TinyMine(2, **BOTH).production, []
@@ -73,7 +90,7 @@ def test_where_the_time_is_over_one_first_schedule_is_made(tmp_path, monkeypatch
     monkeypatch.setattr(search, "take", tried.append)
     with pytest.raises(KeyboardInterrupt):
         search.run(0.0, 0.0)
-    assert len(tried) == 1
+    assert sum(plan is not None for plan in tried) == 1
 
 
 def test_a_first_bound_is_waited_for_and_no_later_one(tmp_path, monkeypatch):

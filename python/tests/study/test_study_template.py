@@ -97,7 +97,7 @@ def of_plan(folder, is_on):
     table(6, 5, 3, 3).to_csv(folder / "t.csv", index=False)
     text = first_look.written(first_look.look_at(folder / "t.csv"), "t.csv")
     before, head, after = text.partition("\n[schedule]\n")
-    assert head and re.findall(r"^# (\w+) = ", after, re.M) == list(PLAN_BY_YEARS)
+    assert re.findall(r"^# (\w+) = ", after, re.M) == list(PLAN_BY_YEARS)
     for name in is_on:
         after = after.replace(f"\n# {name} = ", f"\n{name} = ")
     (folder / "study.toml").write_text(before + head + after)
