@@ -164,9 +164,7 @@ def page(
         help="Show the mine at the end of each year too, as `schedule` found it last.",
     ),
     title: Optional[str] = typer.Option(
-        None,
-        show_default=False,
-        help="The heading. Default: the study's name, and the table's beside it.",
+        None, show_default=False, help="The heading. Default: the study's name and the table's."
     ),
 ) -> None:
     """Write one HTML file with pits in three dimensions, sections, plans and tables: pits by
