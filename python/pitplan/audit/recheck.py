@@ -2007,7 +2007,7 @@ def check_schedule_is_there(report: Report, facts: dict[str, Any]) -> None:
             + (f": not so for {', '.join(gone)}" if gone else "")
             + ("" if facts["has_schedule"] else ": facts.json says that it has none"),
         )
-    elif "schedule" in toml_of("study.toml"):
+    elif toml_of("study.toml").get("schedule"):  # without any key it asks for nothing
         report.say(
             "look",
             "study.toml asks for a plan by years, and the bundle has none:"

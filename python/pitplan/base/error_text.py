@@ -36,6 +36,7 @@ def lines_of(error: PlanError, study_toml: Path | None = None) -> list[str]:
         )
     if error.places[1:]:
         found.append(f"  the first are {', '.join(error.places[:_MOST_PLACES])}")
+    found += [f"  {in_a_line(line)}" for line in error.more]
     return found + ([f"  try: {in_a_line(error.try_this)}"] if error.try_this else [])
 
 

@@ -96,6 +96,8 @@ class PlanError(Exception):
         first `MOST_PLACES`.
     swap : tuple of two str or None
         A word in that key's value, and what seems to be meant in its place.
+    more : tuple of str
+        Further lines for a terminal, as the names that were looked for.
     said : str
         The error in one line, without what to try.
     remedy : Remedy or None
@@ -115,6 +117,7 @@ class PlanError(Exception):
         self.swap: tuple[str, str] | None = None
         self.cells: tuple[Cell, ...] = ()
         self.places: tuple[str, ...] = ()
+        self.more: tuple[str, ...] = ()
         self.remedy = try_this if isinstance(try_this, Remedy) else None
         self.try_this = None if try_this is None else str(try_this)
         super().__init__(what)
@@ -146,6 +149,11 @@ class PlanError(Exception):
         self.places = tuple(places)
         return self
 
+    def with_more(self, lines: Iterable[str]) -> PlanError:
+        """The same error, with further lines for a terminal."""
+        self.more = tuple(lines)
+        return self
+
     def with_remedy(self, remedy: Remedy | None) -> PlanError:
         """The same error, with a change that `try_this` tells in words of its own."""
         self.remedy = remedy
@@ -173,6 +181,7 @@ class PlanError(Exception):
             "remedy": self.remedy and self.remedy.as_data(),
             "cells": [{"row": cell.row + 2, "text": cell.text} for cell in self.cells],
             "places": list(self.places),
+            "more": list(self.more),
         }
 
 
@@ -230,7 +239,7 @@ class Several(PlanError):
             try_this=first.remedy or first.try_this,
             key=first.key,
         )
-        self.cells, self.places = first.cells, first.places
+        self.cells, self.places, self.more = first.cells, first.places, first.more
 
     def __str__(self) -> str:
         return "\n".join(map(str, self.errors))

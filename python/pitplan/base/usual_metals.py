@@ -60,6 +60,8 @@ _NAMES = {
 # By their signs, and by their names.
 _KNOWN = METALS | {found[0]: found for found in METALS.values()}
 _KNOWN |= {word: _KNOWN[name] for word, name in _NAMES.items()}
+# currencies in which a usual price or cost in dollars is about its number
+_DOLLARS = re.compile(r"[A-Z]{0,3}\$|USD|AUD|CAD|EUR|GBP|€|£")
 # metals whose price is known about
 _STEADY = (
     "copper",
@@ -121,3 +123,13 @@ def usual_price(metal: str) -> float | None:
         ),
         None,
     )
+
+
+def is_about_a_dollar(currency: str) -> bool:
+    """Whether a unit of a currency is worth about a dollar, so that what is usual in dollars is usual
+    in it.
+
+    >>> is_about_a_dollar("A$"), is_about_a_dollar(" EUR"), is_about_a_dollar("CLP")
+    (True, True, False)
+    """
+    return _DOLLARS.fullmatch(currency.strip()) is not None

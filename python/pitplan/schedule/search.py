@@ -147,6 +147,7 @@ class Search:
         self.listener, self.found = listener, Found()
         self.rebuilds = min(_REBUILDS, _REBUILT // production.units)
         self.plan: Timetable | None = None
+        self.first: Timetable | None = None  # the best that needs no relaxation
         self.rounds = self.anneals = 0  # of all kinds, and of annealing
         self.by_windows = self.by_annealing = math.inf  # what each gained last
         self.was_windows, self.idle = False, 0  # rounds of windows since something was gained
@@ -175,8 +176,12 @@ class Search:
         self.end = End(KILLED, gap, seconds)
         self.kept.keep_end(self.end)  # whatever ends it before it says why
         try:
-            self.ended(self.looked(gap, seconds))
+            why = self.looked(gap, seconds)
+            if why != GAP:  # else what was asked for is there
+                self.take(self.first)
+            self.ended(why)
         except KeyboardInterrupt:
+            self.take(self.first)
             self.ended(STOPPED)
             raise
 
@@ -192,8 +197,12 @@ class Search:
         self.sorting.ends = ends
         highs.begin(1)  # which takes a while, before it is needed
         if self.plan is None:
-            self.tell("a first schedule, one pit of the series after the other")
-            self.take(self.sorting.by_shells())
+            self.tell("first schedules, one pit of the series after the other")
+            for begun_with in self.sorting.first_ones():
+                self.take(begun_with)
+                if time.monotonic() > ends:
+                    break
+            self.first = self.plan
         if self.found.gap > gap:
             found = self.lower(gap, time.monotonic() + seconds * _BOUND_PART)
             if found is not None:
@@ -226,13 +235,14 @@ class Search:
         multipliers."""
         return self.nodes.total(bound.said, np.array(bound.multipliers, np.int64))
 
-    def take(self, plan: Timetable | None, keep: bool = True) -> None:
-        """Takes a schedule where it is worth more than the one that is there."""
+    def take(self, plan: Timetable | None, keep: bool = True, is_new: bool = False) -> None:
+        """Takes a schedule where it is worth more than the one that is there, or is one to begin anew
+        with."""
         if plan is None:
             return
         plan = self.sorting.shortened(plan)
         npv = self.production.npv(plan)
-        if self.found.npv is not None and npv <= self.found.npv:
+        if self.found.npv is not None and npv <= self.found.npv and not is_new:
             return
         wrong = self.production.wrong(plan)
         assert not wrong, wrong
@@ -317,11 +327,13 @@ class Search:
 
     def sort(self, shared: _Shared, gap: float, ends: float) -> None:
         """Schedules by the shares of the relaxation, and where periods have a fixed cost by those of
-        the one without it too."""
+        the one without it too. They take the place of the first ones whatever these are worth: swaps
+        better them sooner. The best of the first ones comes back where the search ends before that.
+        """
         for shares, multipliers in (shared, *self.shared_without_cost(ends)):
             for plan in self.sorting.by_shares(shares, multipliers):
                 self.tell("schedules in the order of that plan")
-                self.take(plan)
+                self.take(plan, is_new=self.plan is self.first)
                 if self.found.gap <= gap or time.monotonic() > ends:
                     return
 

@@ -138,8 +138,19 @@ class Sorting:
         found: Bools = (mine.values > 0) | (mine.uses[1:] > 0).any(axis=0)
         return found
 
+    def first_ones(self) -> Iterator[Timetable]:
+        """Schedules of orders that need no relaxation, shell after shell: of all units; then of those
+        that are dug for themselves, each right after what is left of all above it, so that no room
+        goes to waste that bares nothing. The richest of a bench, or of a shell, come first."""
+        yield self.by_shells()
+        made, every = self.production, self.production.millable.richest()
+        values, wanted = self.mine_of(every).values, np.flatnonzero(self.is_wanted(every))
+        for keys in ((made.shell, -made.level, -values), (made.shell, -values)):
+            order = wanted[np.lexsort([key[wanted] for key in reversed(keys)])]
+            yield self.by_order(order, np.zeros(made.units, np.int64), every)
+
     def by_shells(self) -> Timetable:
-        """The schedule of the order that needs no relaxation: shell after shell, bench by bench."""
+        """The schedule of all units in an order: shell after shell, bench by bench."""
         made = self.production
         order = self.order[np.argsort(made.shell[self.order], kind="stable")]
         every = made.millable.richest()

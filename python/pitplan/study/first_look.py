@@ -20,7 +20,7 @@ from ..base.usual_metals import metal_of, unit_of
 from ..model.grid import Grid
 from ..model.subblocks import OFF
 from ..slopes.slopes import DEFAULT
-from ..table.column_names import PLACES, REGIONS, SIZES, which_columns, with_few_classes
+from ..table.column_names import PLACES, REGIONS, SIZES, known_as, which_columns, with_few_classes
 from ..table.csv_text import (
     NO_PLACE,
     Dialect,
@@ -180,15 +180,24 @@ def look_at(
             .index[:_MOST_ROCKS]
         ]
         look.airs = _airs_among(frame, names, look.absent)
-    if not {"tonnes", "density"} & set(names):
-        look.notes.append("no column of tonnes or density was found: name it in columns")
-    if "rock" not in names:
-        look.notes.append(
-            "no column of rocks was found: name it in columns, where costs or recoveries go by rock"
-        )
+    look.notes += _not_found(names)
     if dialect.skip:
         look.notes.append(f"{dialect.skip} lines below the header hold no blocks")
     return look
+
+
+def _not_found(names: Mapping[str, str]) -> Iterator[str]:
+    """What is said of columns that aren't there by any name that is looked for."""
+    if not {"tonnes", "density"} & set(names):
+        yield (
+            "no column of tonnes or density was found: name it in columns; names that are looked for:"
+            f" {known_as('tonnes', 'density')}"
+        )
+    if "rock" not in names:
+        yield (
+            "no column of rocks was found: name it in columns, where costs or recoveries go by rock;"
+            f" names that are looked for: {known_as('rock')}"
+        )
 
 
 def _marks_in(frame: pd.DataFrame, names: dict[str, str]) -> tuple[list[str], dict[str, list[str]]]:

@@ -19,12 +19,13 @@ from ..base.kept_json import words_in
 from ..base.strange import Strange, rounded
 from ..base.units import PRICES
 from ..base.units_shown import amount_text, length_text, printed_scale
-from ..base.usual_metals import unit_of, usual_price
+from ..base.usual_metals import is_about_a_dollar, unit_of, usual_price
 from ..model.economics import Economics, Metal
 from ..model.grid import Grid
 from ..model.model import Model, TableKeys
 from .pit_by_pit import YEARS
-from .strange_worths import strange
+from .strange_costs import of_costs
+from .strange_worths import of_forbid, of_tonnes, of_worths
 from ..table.column_names import AIR, columns_with, misnamed, said_of_misnamed
 from ..table.share_columns import is_part, remedy_of_part
 from ..table.study_keys import METALS, PROCESSES
@@ -47,8 +48,6 @@ _TIMES_USUAL = 8  # how many times a metal's usual price a price may be, or its 
 _LEAST_SELLING, _MOST_SELLING = 5e-4, 0.6  # of the price
 _LONGEST, _SHORTEST = 200, 0.01  # years that a mine takes
 _CHEAPEST, _DEAREST = 0.02, 0.3  # a year, that a mine's money is discounted by
-# currencies in which a metal's usual price is about its number
-_DOLLARS = re.compile(r"[A-Z]{0,3}\$|USD|AUD|CAD|EUR|GBP|€|£")
 _DEPTHS = ("depth", "prof", "profundidad", "profundidade", "profondeur", "tiefe", "teufe")
 # A region of such a name lies that way of the middle: as (east, north).
 _WAYS = {
@@ -97,27 +96,40 @@ class _Says(Protocol):
 
 
 def looks(model: Model, priced: Priced, plan: _Says) -> list[Strange]:
-    """All that looks wrong of a model and of what its blocks bring."""
-    rock = model.blocks.tonnes.to_numpy(float) > 0
+    """All that looks wrong of a model and of what its blocks bring: causes before what comes of them,
+    so that the first one is the one to begin with."""
+    rock, economics = model.blocks.tonnes.to_numpy(float) > 0, plan.economics
     if not rock.any():
-        return strange(model, priced, plan.economics)
+        return [
+            *of_tonnes(model),
+            *of_forbid(model, economics),
+            *of_worths(priced, economics),
+        ]
     return [
-        *strange(model, priced, plan.economics),
+        # where blocks are, and what they weigh: first by single rows and columns, then by all
         *_of_axes(model),
         *_of_ground(model, rock),
-        *_of_weights(model, rock),
         *_of_weightless(model, plan),
-        *_of_untaken(model, priced, plan.economics),
         *_of_density(model),
-        *_of_cells(model, plan.economics),
-        *_of_grade_units(model, plan.economics),
+        *_of_weights(model, rock),
         *of_unread(model, plan),
-        *_of_costs(priced, rock, plan.economics),
-        *_of_prices(plan.economics),
-        *_of_selling(plan.economics),
+        *of_tonnes(model),
+        # grades, prices and costs
+        *_of_cells(model, economics),
+        *_of_grade_units(model, economics),
+        *_of_prices(economics),
+        *_of_selling(economics),
+        *of_costs(model, priced, economics),
+        # what may be dug, and be treated
+        *of_forbid(model, economics),
+        *_of_forbid(priced, rock),
+        *_of_untaken(model, priced, economics),
+        # what comes of all these
+        *of_worths(priced, economics),
+        *_of_idle_ways(priced, economics),
         *of_rates(model, priced, plan.rates),
         *_of_schedule_rates(model, priced, plan.values["schedule"], plan.rates),
-        *_of_forbid(priced, rock),
+        # walls, on which none of these hangs
         *_of_regions(model, plan.slopes),
         *_of_bearings(plan.slopes),
         *of_ramps(plan.slopes, model.units.length),
@@ -342,19 +354,8 @@ def of_unread(model: Model, plan: _Says) -> Iterator[Strange]:
         )
 
 
-def _of_costs(priced: Priced, rock: Bools, economics: Economics) -> Iterator[Strange]:
-    """Work that costs nothing, and processes that are too dear for any block."""
-    dug = rock & ~priced.forbidden
-    if dug.any() and (priced.mining[dug] == 0).mean() > 0.5:
-        yield Strange(
-            (
-                f"digging costs nothing for {int((priced.mining[dug] == 0).sum()):,} of"
-                f" {int(dug.sum()):,} blocks"
-            ),
-            "it costs something a tonne, waste too",
-            "mining in [economics]",
-            ("economics", "mining"),
-        )
+def _of_idle_ways(priced: Priced, economics: Economics) -> Iterator[Strange]:
+    """Processes that get no block where others get some."""
     for (way, ore), said in zip(priced.by_way(THOUSAND), economics.treatments):
         if not ore.any() and priced.treated(THOUSAND).any():
             is_one = isinstance(said.cost, (int, float))
@@ -364,14 +365,6 @@ def _of_costs(priced: Priced, rock: Bools, economics: Economics) -> Iterator[Str
                 "",
                 f"cost, recovery and rocks of {said.label}",
                 said.key("processing"),
-            )
-        if ore.any() and (way.processing[ore] == 0).mean() > 0.5:
-            key = said.key("processing")
-            yield Strange(
-                f"treating the ore {f'by {way.name} ' if said.label else ''}costs nothing",
-                "it costs something a tonne",
-                f"cost of {said.label}" if said.label else "processing in [economics]",
-                key,
             )
 
 
@@ -397,7 +390,7 @@ def _times_usual(metal: Metal, currency: str) -> dict[str, float]:
     """How many times the usual one a metal's price is, were it for each of the units; none where no
     usual price is known."""
     usual = usual_price(metal.name)  # of a gram
-    if usual is None or not metal.price or not _DOLLARS.fullmatch(currency.strip()):
+    if usual is None or not metal.price or not is_about_a_dollar(currency):
         return {}
     return {unit: metal.price / (usual * grams) for unit, grams in PRICES.items()}
 

@@ -23,11 +23,6 @@ _RICHEST = 50  # how many times its costs ore may bring
 _LEAST = 0.002  # the share that a metal has of what all bring
 
 
-def strange(model: Model, priced: Priced, economics: Economics) -> list[Strange]:
-    """What the planner should look at."""
-    return [*of_tonnes(model), *_of_worths(priced, economics), *of_forbid(model, economics)]
-
-
 def of_tonnes(model: Model) -> list[Strange]:
     """Where rock is lighter or heavier than any is."""
     tonnes = model.blocks.tonnes.to_numpy(float)
@@ -62,7 +57,7 @@ def of_tonnes(model: Model) -> list[Strange]:
     ]
 
 
-def _of_worths(priced: Priced, economics: Economics) -> list[Strange]:
+def of_worths(priced: Priced, economics: Economics) -> list[Strange]:
     """Where no ore pays, where it pays far too well, and where a metal brings next to nothing."""
     units, key = "price, price_unit, grade_unit and recovery in [economics]", ("economics", METALS)
     ore = priced.treated(THOUSAND)

@@ -61,6 +61,26 @@ USUAL: dict[str, tuple[str, ...]] = {
         "centro_x",
         "x_centroide",
         "centroide_x",
+        "eastings",
+        "east_m",
+        "easting_m",
+        "ew",
+        "e_w",
+        "e-w",
+        "e/w",
+        "eastwest",
+        "east_west",
+        "east-west",
+        "east west",
+        "utm_e",
+        "utm_east",
+        "utm_easting",
+        "utm_x",
+        "x_utm",
+        "x_m",
+        "x_coord",
+        "xcoord",
+        "coord_x",
     ),
     "y": (
         "y",
@@ -88,6 +108,26 @@ USUAL: dict[str, tuple[str, ...]] = {
         "centro_y",
         "y_centroide",
         "centroide_y",
+        "northings",
+        "north_m",
+        "northing_m",
+        "ns",
+        "n_s",
+        "n-s",
+        "n/s",
+        "northsouth",
+        "north_south",
+        "north-south",
+        "north south",
+        "utm_n",
+        "utm_north",
+        "utm_northing",
+        "utm_y",
+        "y_utm",
+        "y_m",
+        "y_coord",
+        "ycoord",
+        "coord_y",
     ),
     "z": (
         "z",
@@ -118,6 +158,15 @@ USUAL: dict[str, tuple[str, ...]] = {
         "centro_z",
         "z_centroide",
         "centroide_z",
+        "rl_m",
+        "elev_m",
+        "elevation_m",
+        "altitude",
+        "z_utm",
+        "z_m",
+        "z_coord",
+        "zcoord",
+        "coord_z",
     ),
     "dx": (
         "xinc",
@@ -293,8 +342,17 @@ def which_columns(
             f"no column is known as {', '.join(missing)}; the header line has {', '.join(header)}",
             table=table,
             try_this=(typed(near) if typed else columns_with(found, **near)),
-        )
+        ).with_more(f"looked for {key} as {known_as(key)}, in capitals or not" for key in missing)
     return found
+
+
+def known_as(*keys: str) -> str:
+    """The usual names of columns, in the order in which they are looked for.
+
+    >>> known_as("dx", "dy")[:34], known_as("ore")
+    ('xinc, dim_x, _east, dx, xlen, xlen', '')
+    """
+    return ", ".join(name for key in keys for name in USUAL[key])
 
 
 def columns_with(known: Mapping[str, str], **more: str) -> str:
@@ -368,6 +426,8 @@ def nearest(missing: Sequence[str], names: Sequence[str]) -> dict[str, str]:
 
     >>> nearest(["x", "y"], ["LENGTH", "Y_LOCAL", "X_LOCAL"])
     {'x': 'X_LOCAL', 'y': 'Y_LOCAL'}
+    >>> nearest(["y", "z"], ["NSR", "R", "NORDWERT"])
+    {'y': 'NORDWERT', 'z': 'NAME'}
     """
     found: dict[str, str] = {}
     for key in missing:
@@ -384,4 +444,10 @@ def _alike(key: str, name: str) -> float:
     letters = set(re.split(r"[^a-z0-9]+", word)) & set(PLACES)
     if letters:
         return 1.0 if key in letters else 0.0
-    return max(difflib.SequenceMatcher(None, usual, word).ratio() for usual in USUAL[key])
+    # of two letters or one nothing is like another, unless it is of x, y or z: NSR isn't like NS
+    telling = [
+        usual
+        for usual in USUAL[key]
+        if sum(map(str.isalpha, usual)) > 2 or set(usual) & set(PLACES)
+    ]
+    return max(difflib.SequenceMatcher(None, usual, word).ratio() for usual in telling)

@@ -613,7 +613,13 @@ KEYS = (
         "years",
         least=1,
         most=100,
-        is_written=False,
+        example="15",
+        note="how many years may be dug in; default: as many as the rates need, and one more",
+        before=(
+            "of the plan by years that pitplan schedule makes; without these keys it goes by the rates"
+            " and the discount of [shells]: take away the # of what is to be otherwise"
+        ),
+        is_off=True,
     ),
     Key(
         "schedule",
@@ -624,7 +630,7 @@ KEYS = (
         least=1,
         most=12,
         default=1,
-        is_written=False,
+        is_off=True,
     ),
     Key(
         "schedule",
@@ -634,7 +640,8 @@ KEYS = (
         "Money counts at",
         choices=("start", "mid", "end"),
         default="mid",
-        is_written=False,
+        note='or "start" or "end" of a period: when its money counts',
+        is_off=True,
     ),
     Key(
         "schedule",
@@ -646,7 +653,9 @@ KEYS = (
         ),
         "Rate of digging",
         "tonnes a year",
-        is_written=False,
+        example="[15e6, 20e6]",
+        note="tonnes of rock a year: a number, or a list by year, whose last number stays",
+        is_off=True,
     ),
     Key(
         "schedule",
@@ -658,7 +667,9 @@ KEYS = (
         ),
         "Rate of milling",
         "tonnes a year",
-        is_written=False,
+        example="[4e6, 8e6]",
+        note="tonnes of the mill's feed a year, likewise; 0 in a year without a mill",
+        is_off=True,
     ),
     Key(
         "schedule",
@@ -683,7 +694,9 @@ KEYS = (
         most=1,
         below=True,
         wrong="a share from 0 to below 1, as 0.08",
-        is_written=False,
+        example="0.08",
+        note="a year",
+        is_off=True,
     ),
     Key(
         "schedule",
@@ -697,7 +710,8 @@ KEYS = (
         "Cut-off",
         choices=("fixed", "by year"),
         default="fixed",
-        is_written=False,
+        note='or "by year": in each year wherever a block brings more, at the mill or as waste',
+        is_off=True,
     ),
     Key(
         "schedule",
@@ -707,7 +721,9 @@ KEYS = (
         "Sink rate",
         "benches a year",
         least=1,
-        is_written=False,
+        example="8",
+        note="benches that may be dug within a year in any column of blocks",
+        is_off=True,
     ),
     Key(
         "schedule",
@@ -722,7 +738,8 @@ KEYS = (
         least=1,
         most=100,
         default=1,
-        is_written=False,
+        note="blocks by blocks of a bench that are dug together: 2 makes squares of four",
+        is_off=True,
     ),
     Key(
         "schedule",
@@ -738,7 +755,9 @@ KEYS = (
         above=True,
         most=1,
         below=True,
-        is_written=False,
+        example="[0.5, 0.75]",
+        note="factors of [shells] whose pits are pushbacks, dug in this order on each bench",
+        is_off=True,
     ),
     Key(
         "schedule",
@@ -753,7 +772,8 @@ KEYS = (
         least=0,
         most=1000,
         default=0,
-        is_written=False,
+        note="benches that a pushback is ahead of those after it",
+        is_off=True,
     ),
     Key(
         "schedule",
@@ -764,7 +784,8 @@ KEYS = (
         "{currency} a year",
         least=0,
         default=0,
-        is_written=False,
+        note="what a year costs in which anything is dug, however much",
+        is_off=True,
     ),
     Key(METALS, "name", "text", "of the metal", "Metal", is_needed=True),
     Key(

@@ -16,7 +16,7 @@ from pathlib import Path
 import mines
 import numpy as np
 import pytest
-from bundles import rechecked, summed, with_schedule
+from bundles import bundled, rechecked, summed, with_schedule
 from pitplan.schedule import pit_schedule, plan as of_plan
 
 RICH = mines.STUDY_TOML.replace("price = 8500", "price = 24000").replace(
@@ -203,6 +203,16 @@ def test_a_plan_that_was_taken_out_is_noticed(whole, tmp_path):
     ran = subprocess.run(words, capture_output=True, text=True)
     assert ran.returncode == 0, ran.stdout
     assert "look    study.toml asks for a plan by years, and the bundle has none" in ran.stdout
+
+
+def test_a_section_without_any_key_asks_for_no_plan(tmp_path):
+    """As `init` writes it, with all its keys as comments."""
+    text = RICH + "\n[schedule]\n# years = 6\n"
+    bundle = bundled(tmp_path, text, mines.table(6, 5, 3, 3))
+    words = [sys.executable, "-I", bundle / "recheck.py", os.environ["PIT"]]
+    ran = subprocess.run(words, capture_output=True, text=True)
+    assert ran.returncode == 0, ran.stdout
+    assert "plan by years" not in ran.stdout
 
 
 def test_a_file_that_no_check_reads_is_told(whole, tmp_path):

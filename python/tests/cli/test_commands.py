@@ -246,6 +246,7 @@ def test_commas_beside_marks_and_column_names_of_ones_own(tmp_path):
     assert lost.returncode == 3
     assert "no column is known as x, y" in lost.stderr
     assert "pitplan init t.csv --column x=xx --column y=yy\n" in lost.stderr
+    assert "\n  looked for x as x, xc, " in lost.stderr
     found = pitplan("init", "t.csv", "--column", "x=xx", "-c", "y=yy", cwd=tmp_path)
     assert found.returncode == 0, found.stderr
     plan = read_study_file(tmp_path / "t")

@@ -86,6 +86,7 @@ def test_why_the_search_ended_is_said_everywhere(mine):
     assert facts["ended_in_words"] in " ".join(said.split())
     page = (folder / "out" / "schedule.html").read_text()
     assert facts["ended_in_words"][1:] in page
+    assert "<title>s: " in page
     years = pd.read_csv(folder / "out" / "schedule.csv")
     assert float(facts["npv"]) == pytest.approx(years.npv.iloc[-1], rel=1e-12)
     assert facts["blocks"] == len(of_table(folder).dropna(subset=["year"]))

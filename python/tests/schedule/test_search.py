@@ -2,12 +2,15 @@
 is tried. Each search ends by what it counts, and none by the time."""
 from types import SimpleNamespace
 
+import numpy as np
 import pytest
 from pitplan.pit import process, program
 from pitplan.pit.program import Files, Periodic, Pit
 from pitplan.schedule import search as searching
+from pitplan.schedule.destinations import Timetable
 from pitplan.schedule.search import Search
-from tiny_mines import TinyMine
+from pitplan.schedule.search_ends import MINUTES
+from tiny_mines import TinyMine, five_columns
 
 FOREVER = 1e9  # seconds
 PANELS, BOTH = {"panel": 2}, {"panel": 2, "pushbacks": True, "lead": 1}
@@ -20,6 +23,11 @@ CASES = [
     *((seed, DEAR) for seed in (0, 28, 46, 48, 59)),
 ]
 LOST = [(59, ORDERED), (25, PANELS), (1, BOTH), (3, PANELS), (0, ORDERED)]
+
+
+def raised(*_):
+    """As where ctrl-C is pressed."""
+    raise KeyboardInterrupt
 
 
 def found_of(mine, folder):
@@ -48,6 +56,41 @@ def test_a_mine_that_is_not_small_enough_for_all_schedules_is_rebuilt(
     monkeypatch.setattr(searching, "is_small", lambda _: False)
     mine = TinyMine(seed, **kind)
     assert found_of(mine, tmp_path)[0] >= 0.9 * mine.best()
+
+
+def test_a_search_that_is_stopped_before_its_bound_has_a_good_schedule(tmp_path, monkeypatch):
+    """The best by hand of a mine where bench by bench no ore is reached in time."""
+    monkeypatch.setattr(searching.Search, "lower", raised)
+    made, best = five_columns()
+    search = Search(tmp_path, made, Pit())
+    with pytest.raises(KeyboardInterrupt):
+        search.run(0.0, FOREVER)
+    assert made.wrong(search.plan) == []
+    assert search.found.npv == made.npv(search.plan) == best
+
+
+def test_a_first_schedule_comes_back_where_none_better_is_found(tmp_path, monkeypatch):
+    """The orders of the relaxation take its place, and the time is over before swaps better them."""
+    made, best = five_columns()
+    search, told = Search(tmp_path, made, Pit()), []
+    poor = Timetable(np.full(made.units, made.periods), np.zeros(0, bool))
+    monkeypatch.setattr(search.sorting, "by_shares", lambda *_: iter([poor]))
+    monkeypatch.setattr(search, "swap", lambda *_: told.append(search.found.npv) or MINUTES)
+    monkeypatch.setattr(searching, "is_small", lambda _: False)
+    search.run(0.0, FOREVER)
+    assert told == [0]
+    assert search.found.npv == made.npv(search.plan) == best
+    assert search.end.why == MINUTES
+
+
+def test_where_the_time_is_over_one_first_schedule_is_made(tmp_path, monkeypatch):
+    monkeypatch.setattr(searching.Search, "lower", raised)
+    made, tried = TinyMine(2, **BOTH).production, []
+    search = Search(tmp_path, made, Pit())
+    monkeypatch.setattr(search, "take", tried.append)
+    with pytest.raises(KeyboardInterrupt):
+        search.run(0.0, 0.0)
+    assert sum(plan is not None for plan in tried) == 1
 
 
 def test_a_first_bound_is_waited_for_and_no_later_one(tmp_path, monkeypatch):

@@ -12,7 +12,7 @@ from pitplan.schedule.destinations import Millable, Timetable
 from pitplan.schedule.partition import begun as first_clusters, relax, shares_of
 from pitplan.schedule.sorting import Sorting
 from six_blocks import best_of_all, made_up
-from tiny_mines import MINES, TinyMine, begun, made_of
+from tiny_mines import MINES, TinyMine, begun, five_columns, made_of
 
 
 @pytest.mark.parametrize("sink", [False, True])
@@ -23,6 +23,24 @@ def test_a_first_schedule_is_feasible_and_none_beats_the_best(seed, kind, sink):
     assert made.wrong(plan) == []
     if (seed, kind) in MINES[:5]:  # of the others not every schedule can be listed
         assert 0 < made.npv(plan) <= TinyMine(seed, **kind).best()
+
+
+@pytest.mark.parametrize("sink", [False, True])
+@pytest.mark.parametrize("seed, kind", MINES)
+def test_first_schedules_are_feasible_and_begin_with_that_by_shells(seed, kind, sink):
+    made = made_of(seed, kind, sink)
+    found = list(Sorting(made).first_ones())
+    assert len(found) == 3
+    assert [made.wrong(plan) for plan in found] == [[], [], []]
+    assert (found[0].period == Sorting(made).by_shells().period).all()
+
+
+def test_a_first_schedule_digs_no_waste_that_bares_nothing():
+    """Bench by bench no ore is reached: the waste of all columns would come before."""
+    made, best = five_columns()
+    worths = [made.npv(plan) for plan in Sorting(made).first_ones()]
+    assert worths[0] <= 0
+    assert max(worths) == best
 
 
 @pytest.mark.parametrize("seed, kind", MINES[:4])

@@ -308,6 +308,64 @@ def test_a_slip_looks_wrong(tmp_path, text, frame, said, key):
     assert hits[0].try_this, [(str(look), look.key) for look in found.looks]
 
 
+CAUSES = [  # a slip, what is said of it, and of what comes of it
+    (
+        "a price a tonne told as a pound",
+        (
+            "price = 8500, recovery = 0.85, payable = 0.965, selling = 420",
+            'price = 8500, price_unit = "lb", recovery = 0.85',
+        ),
+        None,
+        ['or price_unit = "t"', "the ore brings", "gold brings"],
+    ),
+    (
+        "a price in thousands",
+        ("price = 1900", "price = 1.9"),
+        None,
+        ["gold costs 1.9 $ a oz", "gold brings"],
+    ),
+    (
+        "a grade in another unit than its column says",
+        ('grade = "CU", price = 8500', 'grade = "CU_PCT", grade_unit = "ppm", price = 8500'),
+        lambda frame: frame.rename(columns={"CU": "CU_PCT"}),
+        ['try: grade_unit = "%"', "copper brings"],
+    ),
+    (
+        "costs in cents",
+        ("OXI = 7.5, SUL = 9.0", "OXI = 750, SUL = 900"),
+        None,
+        ["try: processing = { OXI = 7.5, SUL = 9 }", "no block pays for its treatment"],
+    ),
+    (
+        "one block that weighs more than all",
+        None,
+        cell("TONNES", 7, 1.5e9),
+        ["row 9 weighs 1,500,000,000 tonnes", "on average"],
+    ),
+    (
+        "forbid that holds everywhere, and costs in tenths of a cent",
+        (
+            "mining = 2.0\nprocessing = { OXI = 7.5, SUL = 9.0 }",
+            'mining = 2.0\nforbid = ["XC > 500"]\nprocessing = { OXI = 7500, SUL = 9000 }',
+        ),
+        None,
+        ["try: processing = ", "forbid keeps", "no block pays"],
+    ),
+]
+
+
+@pytest.mark.parametrize(
+    "text, frame, said", [row[1:] for row in CAUSES], ids=[row[0] for row in CAUSES]
+)
+def test_a_cause_is_told_before_what_comes_of_it(tmp_path, text, frame, said):
+    found = check(slipped(tmp_path / "s", text, frame))
+    assert not found.errors, list(map(str, found.errors))
+    texts = list(map(str, found.looks))
+    assert said[0] in texts[0], texts
+    at = [next(i for i, text in enumerate(texts) if part in text) for part in said]
+    assert at == sorted(at), texts
+
+
 def test_a_rock_with_grades_that_weighs_nothing_looks_wrong(tmp_path):
     """Its blocks and those with a grade are counted in the table; air, a rock without any grade, and
     one that weighs something in a block are right."""

@@ -3,12 +3,17 @@ import pytest
 
 import pitplan as pp
 from mines import COPPER, costs, model_of, table
-from pitplan.study.strange_worths import of_tonnes, strange
+from pitplan.study.strange_worths import of_forbid, of_tonnes, of_worths
 
 
 @pytest.fixture(scope="module")
 def frame():
     return table(5, 4, 4, 6)
+
+
+def strange(model, priced, economics):
+    """All that is told of a model's tonnes and worths."""
+    return [*of_tonnes(model), *of_worths(priced, economics), *of_forbid(model, economics)]
 
 
 COPPER_T = pp.Metal("copper", "CU", price=8500, recovery=0.85)

@@ -195,6 +195,28 @@ def made_of(seed, kind, sink=False):
     return made
 
 
+def five_columns():
+    """A mine of five columns, each of a block of waste over one of ore, of which the last is ten times
+    as rich as another; in each of two years two blocks may be dug. And what its best schedule is worth
+    in millionths: the rich column in the first year, and one of the others in the second."""
+    waste, ore = [-1000] * 5, [2000] * 4 + [20_000]
+    below, count = np.arange(5, 10), 10
+    uses = np.array([[10] * 10, [0] * 5 + [10] * 5], np.int64)
+    made = Production(
+        Terms(WEIGHTS[:2], ((20, 20), (1000, 1000))),
+        np.arange(count),
+        np.arange(count),
+        count,
+        np.array(waste + ore, np.int64),
+        uses,
+        np.array([1] * 5 + [0] * 5, np.int64),
+        np.zeros(count, np.int64),
+        Pairs.of(below, below - 5, count),
+        Pairs.of(below[:0], below[:0], count),
+    )
+    return made, WEIGHTS[0] * 19_000 + WEIGHTS[1] * 1000
+
+
 def begun(made):
     """A first schedule, and the sorting of the mine."""
     orders = Sorting(made)

@@ -2,6 +2,9 @@
 import pytest
 
 from mines import table
+from pitplan.base.error_text import lines_of
+from pitplan.base.errors import PlanError
+from pitplan.table.column_names import misnamed, which_columns
 from tables import read, refusal
 
 
@@ -23,6 +26,10 @@ PACKAGES = {
     "Portuguese": dict(
         IJK="bloco", XC="leste", YC="norte", ZC="cota", TONNES="toneladas", ROCK="rocha"
     ),
+    "of a local grid": dict(XC="EW", YC="NS", ZC="RL"),
+    "of a local grid, in words": dict(XC="East_West", YC="North-South", ZC="Elevation_m"),
+    "of a survey": dict(XC="UTM_E", YC="UTM_N", ZC="Altitude"),
+    "with units": dict(XC="EASTING_M", YC="NORTHING_M", ZC="RL_M"),
     "French": dict(IJK="bloc", XC="est", YC="nord", ZC="cote", TONNES="tonnage", ROCK="roche"),
 }
 
@@ -66,6 +73,27 @@ def test_names_of_ones_own(tmp_path):
     assert "is 'tonnes' meant?" in refusal(tmp_path, f, columns={"tons": "Masse"})
 
 
+def test_names_that_were_looked_for_are_told():
+    """Those of the axes that weren't found, before what to try, in the terminal alone."""
+    with pytest.raises(PlanError) as error:
+        which_columns(["A", "B", "ZC", "ZONE"], {}, "t.csv")
+    said, x, y, advice = lines_of(error.value)
+    assert said == "t.csv: no column is known as x, y; the header line has A, B, ZC, ZONE"
+    for line, key, names in ((x, "x", "xc east easting ew este"), (y, "y", "yc north ns norte")):
+        start, end = f"  looked for {key} as ", ", in capitals or not"
+        assert line.startswith(start)
+        assert line.endswith(end)
+        assert set(names.split()) <= set(line[len(start) : -len(end)].split(", "))
+    assert " rl," not in x + y
+    assert advice.startswith("  try: ")
+
+
+def test_east_west_is_x_and_north_south_is_y_where_the_usual_names_arent_there():
+    assert misnamed({"x": "NS", "y": "EW", "z": "RL"}) == {"x": "y", "y": "x"}
+    found = which_columns(["EW", "NS", "RL", "X", "Y"], {}, "t.csv")
+    assert (found["x"], found["y"]) == ("X", "Y")
+
+
 def test_unknown_keys_name_the_nearest(tmp_path):
     assert "is 'rotation' meant?" in refusal(tmp_path, table(3, 3, 2, 1), rotatoin=3)
     assert 'z is \'up\', and has to be "elevation" or "depth"' in refusal(
@@ -75,8 +103,6 @@ def test_unknown_keys_name_the_nearest(tmp_path):
 
 
 def test_the_usual_spanish_names_of_ids_and_rocks():
-    from pitplan.table.column_names import which_columns
-
     found = which_columns(["CODIGO", "ESTE", "NORTE", "COTA", "DENS", "LITO"], {}, "t.csv")
     assert found == {
         "id": "CODIGO",
