@@ -2032,6 +2032,12 @@ def of_cutoff() -> str:
     return f', whose bound is of schedules with each block {where} (cutoff = "{cutoff}")'
 
 
+def before_costs() -> str:
+    """That what `pit schedule` says is before fixed costs, which it doesn't know, where there are any."""
+    has_costs = study_of("schedule", "fixed_cost").get("fixed_cost", 0) > 0
+    return ", before fixed costs, which recheck_schedule.py takes off" if has_costs else ""
+
+
 def check_planned(report: Report, pit: str, is_plain: bool) -> None:
     """What `pit schedule` says of the plan by years: of single blocks beside its bound, over the pit at
     the full price; and of that bound plainly.py, where it is asked."""
@@ -2064,7 +2070,8 @@ def check_planned(report: Report, pit: str, is_plain: bool) -> None:
     said = " ".join(ran.stdout.split())
     report.check(
         is_so,
-        f"pit schedule of the plan by years{of_cutoff() if is_by_blocks else ''}: {said[:400]}",
+        f"pit schedule of the plan by years{of_cutoff() if is_by_blocks else ''}{before_costs()}:"
+        f" {said[:400]}",
     )
     if is_plain and is_by_blocks and found:
         pit_of = ["--pit", str(within(packed["--pit"]))]

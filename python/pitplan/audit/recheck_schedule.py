@@ -6,7 +6,7 @@
 It reads study.toml, the planner's table, the model in model/, the pit at the full price in
 certificates/, schedule/ and tables/, by the readers of recheck.py, which has to lie beside it. What
 periods weigh and have and what blocks use is worked out again. Of the certificate of the bound it
-takes the flow alone: no pit needs to be trusted, and none is run. That the pit at the full price is
+takes the flow alone, and compares the bound with what the planner was shown: no pit needs to be trusted, and none is run. That the pit at the full price is
 a best one, and the slopes, are for recheck.py. A line begins with ok or WRONG; the exit status is 0
 where nothing is WRONG.
 """
@@ -1376,9 +1376,10 @@ def main() -> int:
         f"ok    no schedule of the pit's blocks by these terms, {of_ways(periods)}, is worth more than {bound:,f}"
     )
     print(
-        "ok    what periods weigh and have is what study.toml says, and what blocks use and bring"
+        "ok    what periods weigh and have is what study.toml says, and what the pit's blocks use"
     )
-    print("      what it and the planner's table say")
+    print("      and bring what it and the planner's table say")
+    print("ok    worth and bound are those that the planner was shown")
     print(
         "ok    tables/schedule.csv and tables/schedule_benches.csv are what the schedule comes to"
     )
