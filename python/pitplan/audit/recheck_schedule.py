@@ -1016,15 +1016,6 @@ def check_terms(mine: Mine, periods: Periods, asked: Asked) -> None:
             weight == ours,
             f"schedule/periods.toml: period {t + 1} weighs {weight}, and by study.toml {ours}",
         )
-    names, parts = resources_of(recheck.treatments_of(recheck.economics_of())), parts_of(periods)
-    for resource, (name, row) in enumerate(zip(names, periods.capacities)):
-        for t, room in enumerate(row):
-            ours = asked.room(resource, t) if asked.rates[resource] else totals[resource]
-            ours -= ours % parts[resource]
-            need(
-                room == ours,
-                f"schedule/periods.toml: period {t + 1} has {room} of {name}, and by study.toml {ours}",
-            )
     panel = asked.terms.get("panel", 1)
     square = {
         block: (x // panel, y // panel, z, periods.pushback[block] if panel > 1 else 0)
@@ -1037,6 +1028,20 @@ def check_terms(mine: Mine, periods: Periods, asked: Asked) -> None:
         if panel > 1
         else "schedule/units.txt joins blocks, and study.toml asks for no panels",
     )
+
+
+def check_rooms(periods: Periods, asked: Asked) -> None:
+    """What periods have is the rates of study.toml, as far as what blocks use fills them."""
+    totals = [sum(row[block] for block in periods.unit) for row in periods.uses]
+    names, parts = resources_of(recheck.treatments_of(recheck.economics_of())), parts_of(periods)
+    for resource, (name, row) in enumerate(zip(names, periods.capacities)):
+        for t, room in enumerate(row):
+            ours = asked.room(resource, t) if asked.rates[resource] else totals[resource]
+            ours -= ours % parts[resource]
+            need(
+                room == ours,
+                f"schedule/periods.toml: period {t + 1} has {room} of {name}, and by study.toml {ours}",
+            )
 
 
 def parts_of(periods: Periods) -> list[int]:
@@ -1075,7 +1080,7 @@ def check_uses(mine: Mine, periods: Periods, rows: recheck.OfRows) -> None:
             off = 0.5 + recheck.LEFT * ours * THOUSAND
             need(
                 abs(kept - ours * THOUSAND) <= off,
-                f"block {block} uses {kept} of {name}, and by the table {ours * THOUSAND:.3f}",
+                f"schedule/uses.blocks: block {block} uses {kept} of {name}, and by the table {ours * THOUSAND:.3f}",
             )
 
 
@@ -1350,16 +1355,18 @@ def main() -> int:
         when = read_schedule(mine, len(periods.weights))
         check_pit(periods)
         asked = Asked.read()
-        check_terms(mine, periods, asked)  # before what follows from terms, so that a cause is told
+        # What others follow from comes first, so that a cause is told.
+        check_terms(mine, periods, asked)
+        rows = recheck.check_table(Quiet(), mine.blocks, recheck.facts_of())
+        need(rows is not None, "the rows of the table aren't the blocks")
+        assert rows is not None
+        check_uses(mine, periods, rows)
+        check_rooms(periods, asked)
         lagged = sinking(mine, periods)
         check_texts(periods, lagged)
         npv = check_schedule(mine, periods, lagged, when)
         bound = check_bound(mine, periods, lagged)
         need(npv <= bound, f"the schedule is worth {npv:,f}, and its bound is {bound:,f}")
-        rows = recheck.check_table(Quiet(), mine.blocks, recheck.facts_of())
-        need(rows is not None, "the rows of the table aren't the blocks")
-        assert rows is not None
-        check_uses(mine, periods, rows)
         check_tables(mine, periods, asked, when, rows)
         check_told(periods, npv, bound)
     except (Wrong, recheck.Bad) as error:
