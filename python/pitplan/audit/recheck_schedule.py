@@ -6,9 +6,9 @@
 It reads study.toml, the planner's table, the model in model/, the pit at the full price in
 certificates/, schedule/ and tables/, by the readers of recheck.py, which has to lie beside it. What
 periods weigh and have and what blocks use is worked out again. Of the certificate of the bound it
-takes the flow alone, and compares the bound with what the planner was shown: no pit needs to be trusted, and none is run. That the pit at the full price is
-a best one, and the slopes, are for recheck.py. A line begins with ok or WRONG; the exit status is 0
-where nothing is WRONG.
+takes the flow alone, and compares the bound with the one that the planner was shown. No pit needs to
+be trusted, and none is run. That the pit at the full price is a best one, and the slopes, are for
+recheck.py. A line begins with ok or WRONG; the exit status is 0 where nothing is WRONG.
 """
 from __future__ import annotations
 
