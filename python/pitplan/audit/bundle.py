@@ -1,4 +1,4 @@
-"""What an auditor gets: all that the numbers rest on, with two scripts that check it again without
+"""What an auditor gets: all that the numbers rest on, with the scripts that check it again without
 this package."""
 from __future__ import annotations
 
@@ -56,7 +56,7 @@ facts.json           how the table was read, the grid, the versions of the progr
 
 Before you begin: compare the sha256 of SHA256SUMS with the one that the planner tells you by\
  another way; recheck.py prints it
-last. Read the two scripts, or take them from a copy that you trust. The pit has to be yours: its\
+last. Read the scripts, or take them from a copy that you trust. The pit has to be yours: its\
  repository builds and proves it.
 
 One certificate by hand, in this folder:

@@ -6,9 +6,9 @@
 It reads study.toml, the planner's table, the model in model/, the pit at the full price in
 certificates/, schedule/ and tables/, by the readers of recheck.py, which has to lie beside it. What
 periods weigh and have and what blocks use is worked out again. Of the certificate of the bound it
-takes the flow alone: no pit needs to be trusted, and none is run. That the pit at the full price is
-a best one, and the slopes, are for recheck.py. A line begins with ok or WRONG; the exit status is 0
-where nothing is WRONG.
+takes the flow alone, and compares the bound with the one that the planner was shown. No pit needs to
+be trusted, and none is run. That the pit at the full price is a best one, and the slopes, are for
+recheck.py. A line begins with ok or WRONG; the exit status is 0 where nothing is WRONG.
 """
 from __future__ import annotations
 
@@ -19,12 +19,14 @@ if __name__ == "__main__" and not (sys.flags.isolated or getattr(sys.flags, "saf
 
 import copy
 import importlib.util
+import json
 import math
 import re
 import zlib
-from collections.abc import Iterator
+from collections.abc import Collection, Iterator
 from decimal import Decimal, localcontext
 from importlib.machinery import ModuleSpec, SourceFileLoader
+from itertools import zip_longest
 from pathlib import Path
 from types import CodeType
 from typing import TYPE_CHECKING, Any, BinaryIO, NamedTuple
@@ -65,11 +67,75 @@ HELD = 10**30  # what a node is worth less whose block waits beyond its period, 
 FULL = 0.995  # of a rate, from which on it is said to bind, whatever still fits
 WHEN = {"start": Decimal(0), "mid": Decimal("0.5"), "end": Decimal(1)}
 CUTOFFS = ("fixed", "by year")
+ENDS = {"SOURCE": 1, "REST": 2, "SINK": 1}  # how many nodes a line of the flow names
 TERMS = recheck.STUDY["schedule"]
-# The keys of schedule/periods.toml and schedule/terms.json.
-OF_PERIODS = ("weights", "resources", "capacities", "multipliers", "waits", "lag")
-OF_TERMS = ("sink", "lag", "pushbacks", "lead", "fixed_cost")
+MOST_PERIODS, MOST_LEAD, MOST_COST = 200, 1000, 10**12  # that pitplan plans with
+# The values that each key of schedule/periods.toml and schedule/terms.json may have.
+Kind, MOST_NUMBER = recheck.Kind, 10**60
+
+
+def is_amount(value: Any) -> bool:
+    """Whether this is a whole number of at least 0; nan, inf, 1.0 and true are none."""
+    return recheck.is_whole(value, 0, MOST_NUMBER)
+
+
+def whole_to(least: int, most: int) -> recheck.Kind:
+    """A whole number in a range."""
+    must = f"a whole number from {least} to {most:,}"
+    return Kind(must, lambda value: recheck.is_whole(value, least, most))
+
+
+def is_row(value: Any) -> bool:
+    """Whether this is a list of whole numbers of at least 0, and of one at least."""
+    return recheck.is_list(value, is_amount, 1)
+
+
+ROW = Kind("a list of 1 or more whole numbers of at least 0", is_row)
+ROWS = Kind(
+    "a list of lists of 1 or more whole numbers of at least 0",
+    lambda value: recheck.is_list(value, is_row, 1),
+)
+OF_PERIODS = {
+    "weights": Kind(
+        f"a list of 1 to {MOST_PERIODS:,} whole numbers of at least 0",
+        lambda value: recheck.is_list(value, is_amount, 1, MOST_PERIODS),
+    ),
+    "resources": Kind(
+        "a list of columns: whole numbers of at least 0, or lists of such",
+        lambda value: recheck.is_list(value, lambda one: is_amount(one) or is_row(one), 1),
+    ),
+    "capacities": ROWS,
+    "multipliers": ROWS,
+    "waits": ROW,
+    "lag": whole_to(1, MOST_PERIODS),
+}
+SOLD = Kind(
+    "an amount in quotes, as pitplan writes it",
+    lambda value: isinstance(value, str)
+    and re.fullmatch(r"-?(0|[1-9][0-9]{0,59})(\.[0-9]{1,20})?", value) is not None,
+)
+OF_TERMS = {
+    "sink": Kind(
+        "null or a whole number from 1 on",
+        lambda value: value is None or recheck.is_whole(value, 1),
+    ),
+    "lag": whole_to(1, MOST_PERIODS),
+    "pushbacks": Kind(
+        f"a list of whole numbers from 1 to {THOUSAND:,}",
+        lambda value: recheck.is_list(value, lambda one: recheck.is_whole(one, 1, THOUSAND)),
+    ),
+    "lead": whole_to(0, MOST_LEAD),
+    "fixed_cost": whole_to(0, MOST_COST),
+    "npv": SOLD,
+    "bound": SOLD,
+}
 LINE = re.compile(rb"[A-Z0-9-]+(?: [A-Z0-9-]+)*")  # of a text that pit reads, but for those in TOML
+WHOLE = re.compile("0|-?[1-9][0-9]{0,59}")  # a number there, as pitplan writes it
+# What Python raises where a file contradicts another in a way that no check above names.
+UNFIT = (
+    *(EOFError, zlib.error, AttributeError, ArithmeticError, ValueError, KeyError, IndexError),
+    *(TypeError, MemoryError, RecursionError),
+)
 Rows = list[list[int]]  # of each block or unit those that it rests on
 
 
@@ -109,7 +175,7 @@ class Periods(NamedTuple):
     priced at, uses by resource and block, the unit of each block of the pit, the sink rate, the way,
     from 1, of each block that is sent (None where each goes that by which it is worth most), the
     pushback of each block, how far one is ahead of the next, and what a period costs in which rock is
-    dug."""
+    dug. `told` is what the planner was shown: the worth of the schedule, and its bound."""
 
     weights: list[int]
     capacities: Rows
@@ -122,6 +188,7 @@ class Periods(NamedTuple):
     pushback: dict[int, int]
     lead: int
     fixed_cost: int
+    told: tuple[str, str] = ("0", "0")
 
     def goes(self, mine: Mine, block: int) -> int:
         """Which way a block goes once it is dug, from 1; 0 to waste."""
@@ -152,6 +219,28 @@ def words_of(name: str) -> Iterator[list[str]]:
     need(not rest, f"{name} has no line feed at its end, or was cut off")
 
 
+def whole_number(where: str, word: str) -> int:
+    """A number of a text, in the one form that pitplan writes, which no two programs read apart."""
+    is_plain = WHOLE.fullmatch(word) is not None
+    need(
+        is_plain,
+        f"{where}, has {recheck.shown(word)}, and has to have a plain whole number, as 0, 12 or -3",
+    )
+    return int(word)
+
+
+def numbers_of(name: str, what: str, least: int, most: int | None = None) -> Iterator[list[int]]:
+    """The lines of a text that has numbers alone, of which each line has so many; `what` says which
+    they are."""
+    for n, words in enumerate(words_of(name), 1):
+        where = f"{name}, line {n}"
+        need(
+            least <= len(words) <= (most or len(words)),
+            f"{where}, has {len(words)} words, and has to have {what}",
+        )
+        yield [whole_number(where, word) for word in words]
+
+
 def parts_of_text(name: str, file: BinaryIO) -> Iterator[bytes]:
     """What a text of that name has, in pieces."""
     if not name.endswith(".gz"):
@@ -160,8 +249,8 @@ def parts_of_text(name: str, file: BinaryIO) -> Iterator[bytes]:
         return
     try:
         yield from recheck.pieces(file, MOST_BYTES, "a certificate")
-    except (recheck.Bad, EOFError) as error:
-        raise Wrong(f"{name}: {error}") from None
+    except (recheck.Bad, EOFError, zlib.error) as error:
+        raise Wrong(f"{name}: {recheck.reason(error)}") from None
 
 
 def text_in(name: str) -> str:
@@ -173,34 +262,48 @@ def text_in(name: str) -> str:
 
 def stated_periods() -> dict[str, Any]:
     """What schedule/periods.toml says."""
-    text_in("schedule/periods.toml")  # of no other size
-    found = recheck.toml_as_written("schedule/periods.toml")
+    name = "schedule/periods.toml"
+    text = text_in(name)
+    found = recheck.toml_as_written(name)
     need_known("periods.toml", found, OF_PERIODS)
+    recheck.looked_at(f"{name}:", found, OF_PERIODS, list(OF_PERIODS)[:4])
+    # No comment, no number of another form, and keys in the order of the kinds above.
+    ours = "".join(f"{key} = {found[key]}\n" for key in OF_PERIODS if key in found)
+    need_written(name, text, ours)
     return found
 
 
 def stated_terms() -> dict[str, Any]:
     """What schedule/terms.json says."""
-    found = recheck.of_json(text_in("schedule/terms.json"), "schedule/terms.json")
-    need(isinstance(found, dict), "terms.json isn't a table")
+    name = "schedule/terms.json"
+    text = text_in(name)
+    found = recheck.of_json(text, name)
+    recheck.looked_at(f"{name}:", found, OF_TERMS, OF_TERMS)
     need_known("terms.json", found, OF_TERMS)
+    need_written(name, text, json.dumps(found))
     return dict(found)
 
 
-def need_known(name: str, values: dict[str, Any], known: tuple[str, ...]) -> None:
+def need_written(name: str, text: str, ours: str) -> None:
+    """Ends the check where a text isn't, byte for byte, the one that pitplan writes for its values."""
+    for n, (line, wanted) in enumerate(zip_longest(text.split("\n"), ours.split("\n")), 1):
+        need(
+            line == wanted,
+            f"{name}, line {n}, is {recheck.shown(line or '')}, and pitplan writes these values as"
+            f" {recheck.shown(wanted or '')}",
+        )
+
+
+def need_known(name: str, values: dict[str, Any], known: Collection[str]) -> None:
     """Ends the check where a table has a key that nothing reads."""
     strange = [recheck.shown(key) for key in values if key not in known]
     need(not strange, f"{name} has {', '.join(strange)}, which pitplan writes into no such file")
 
 
-def is_whole(value: Any) -> bool:
-    """Whether a value is a whole number; nan, inf and true are none."""
-    return type(value) is int
-
-
 def read_mine() -> Mine:
     """The model as pit was given it."""
     blocks, costs, gains = recheck.Blocks(), list[int](), list[list[int]]()
+    need(bool(blocks.amounts), "model/mine.blocks has no block")
     for number, (each, mining) in enumerate(blocks.amounts):
         of_ways = [max(0, revenue - processing) for revenue, processing in each]
         is_whole = not any(amount % MILLION for amount in (*of_ways, mining))
@@ -217,63 +320,96 @@ def read_periods(mine: Mine) -> Periods:
     stated, terms = stated_periods(), stated_terms()
     weights, count = stated["weights"], len(stated["weights"])
     resources = 1 + len(mine.blocks.amounts[0].ways)
-    need(all(map(is_whole, weights)), "a weight isn't a whole number")
-    need(all(a >= b for a, b in zip(weights, weights[1:])), "weights don't fall")
-    need(min(weights) >= 0, "a weight is below 0")
-    for name in ("capacities", "multipliers"):
-        rows = stated[name]
+    for t in range(1, count):
         need(
-            [len(row) for row in rows] == [count] * resources,
-            f"{name} aren't of {resources} resources",
+            weights[t] <= weights[t - 1],
+            f"schedule/periods.toml: weights rise: period {t + 1} weighs {weights[t]}, and the one"
+            f" before it {weights[t - 1]}",
         )
-        need(all(map(is_whole, sum(rows, []))), f"one of the {name} isn't a whole number")
-        need(min(min(row) for row in rows) >= 0, f"one of the {name} is below 0")
-    uses: Rows = [[] for _ in range(resources)]
-    for number, words in enumerate(words_of("schedule/uses.blocks")):
-        need(int(words[0]) == number, "uses.blocks isn't in the order of its blocks")
-        at = tuple(map(int, words[1:4]))
-        need(at == mine.blocks.places[number], f"uses.blocks has block {number} at another place")
-        for row, word in zip(uses, words[4 : 4 + resources]):
-            row.append(int(word))
-    need({len(row) for row in uses} == {len(mine.costs)}, "uses.blocks isn't of this model")
-    need(min(min(row) for row in uses) >= 0, "a use is below 0")
-    unit = read_units()
+    for name in ("capacities", "multipliers"):
+        need(
+            [len(row) for row in stated[name]] == [count] * resources,
+            f"schedule/periods.toml: {name} aren't lists of {count} periods for {resources} resources",
+        )
+    unit = read_units(len(mine.costs))
     return Periods(
         weights,
         stated["capacities"],
         stated["multipliers"],
-        uses,
+        read_uses(mine, resources),
         unit,
         terms["sink"],
         terms["lag"],
-        read_sent(resources - 1),
+        read_sent(mine),
         read_pushbacks(terms["pushbacks"], unit),
         terms["lead"],
         terms["fixed_cost"],
+        (terms["npv"], terms["bound"]),
     )
 
 
-def read_units() -> dict[int, int]:
-    """The unit of each block of the pit."""
-    found = dict[int, int]()
-    for words in words_of("schedule/units.txt"):
-        block, unit = map(int, words)
-        need(block not in found, f"units.txt has a second line of block {block}")
+def read_uses(mine: Mine, resources: int) -> Rows:
+    """What each block uses of each resource."""
+    name, uses = "schedule/uses.blocks", list[list[int]]()
+    what = f"a block, its place, what it uses of {resources} resources, and what it waits for"
+    for number, row in enumerate(numbers_of(name, what, 4 + resources)):
+        where = f"{name}, line {number + 1}"
+        need(row[0] == number, f"{where}, is of block {row[0]}: blocks aren't in their order")
+        need(number < len(mine.costs), f"{where}, is of block {number}, which isn't in the model")
+        is_there = tuple(row[1:4]) == mine.blocks.places[number]
+        need(is_there, f"{where}, has block {number} at another place than model/mine.blocks")
+        uses.append(row[4 : 4 + resources])
+        need(min(uses[-1]) >= 0, f"{where}, has a use below 0")
+    need(len(uses) == len(mine.costs), f"{name} hasn't a line for each block of the model")
+    return [list(row) for row in zip(*uses)]
+
+
+def read_units(size: int) -> dict[int, int]:
+    """The unit of each block of the pit, by lines of blocks of a model of that size."""
+    name, found = "schedule/units.txt", dict[int, int]()
+    for n, (block, unit) in enumerate(numbers_of(name, "2: a block and its unit", 2, 2), 1):
+        need(0 <= block < size, f"{name}, line {n}, is of block {block}, which isn't in the model")
+        need(block not in found, f"{name} has a second line of block {block}: line {n}")
         found[block] = unit
+    need(bool(found), f"{name} is empty: it has to have a line for each block of the pit")
+    for block, unit in found.items():
+        need(
+            0 <= unit < len(found),
+            f"{name}: block {block} has unit {unit}, and has to have a number from 0 to"
+            f" {len(found) - 1:,}, as the pit has {len(found):,} blocks",
+        )
     return found
 
 
-def read_sent(waste: int) -> dict[int, int] | None:
-    """The way, from 1, of each block that a schedule sends, where it says which; the way of one that
-    goes to waste has the number of the ways. None where it doesn't say."""
-    rows = [words for words in words_of("schedule/schedule.txt") if len(words) != 2]
-    found = {int(words[0]): int(words[2]) + 1 for words in rows if int(words[2]) != waste}
-    return found if rows else None
+def planned_rows(mine: Mine) -> Iterator[tuple[int, list[int]]]:
+    """The lines of schedule/schedule.txt, with their numbers: a block of the model, its period, and
+    its way where a schedule says which; that of waste has the number of the ways."""
+    name, waste = "schedule/schedule.txt", len(mine.blocks.amounts[0].ways)
+    size, count = len(mine.costs), 0
+    for n, row in enumerate(numbers_of(name, "2 or 3: a block, its period and its way", 2, 3), 1):
+        where = f"{name}, line {n}"
+        need(0 <= row[0] < size, f"{where}, is of block {row[0]}, which isn't in the model")
+        count = count or len(row)
+        need(len(row) == count, f"{where}: the schedule has a way for some blocks alone")
+        need(all(0 <= way <= waste for way in row[2:]), f"{where}: block {row[0]}: its way is none")
+        yield n, row
+    need(bool(count), f"{name} is empty: it has to have a line for each block that is dug")
+
+
+def read_sent(mine: Mine) -> dict[int, int] | None:
+    """The way, from 1, of each block that a schedule sends, where it says which. None where it doesn't
+    say."""
+    waste = len(mine.blocks.amounts[0].ways)
+    rows = [row for _, row in planned_rows(mine) if len(row) > 2]
+    return {block: way + 1 for block, _, way in rows if way != waste} if rows else None
 
 
 def read_pushbacks(factors: list[int], unit: dict[int, int]) -> dict[int, int]:
     """The pushback of each block of the pit: how many of the pits of these factors don't have it."""
-    need(all(a < b for a, b in zip(factors, factors[1:])), "the factors of pushbacks don't ascend")
+    need(
+        all(a < b for a, b in zip(factors, factors[1:])),
+        "schedule/terms.json: the factors of pushbacks don't ascend",
+    )
     pits = [pit_of(factor) for factor in factors]
     return {block: sum(block not in pit for pit in pits) for block in unit}
 
@@ -281,7 +417,14 @@ def read_pushbacks(factors: list[int], unit: dict[int, int]) -> dict[int, int]:
 def pit_of(factor: int) -> set[int]:
     """The blocks of the pit at a factor, by its certificate: as many as verdicts.json says."""
     name = f"certificates/f{factor:05d}.cert.gz"
-    found = [int(words[1]) for words in words_of(name) if words[0] == "PIT"]
+    found = list[int]()
+    for n, words in enumerate(words_of(name), 1):
+        if words[0] == "PIT":
+            where = f"{name}, line {n}"
+            need(
+                len(words) == 2, f"{where}, has {len(words)} words, and has to have PIT and a block"
+            )
+            found.append(whole_number(where, words[1]))
     said = [each["count"] for each in recheck.verdicts_of() if each["file"] == name]
     need(
         said == [len(found)] and len(found) == len(set(found)),
@@ -297,7 +440,9 @@ def sinking(mine: Mine, periods: Periods) -> Rows:
     """Of each block of the pit the block of rock that the sink rate asks for a year before: so many
     benches straight above it, where a block lies at each bench between."""
     found: Rows = [[] for _ in mine.costs]
-    if periods.sink is None:
+    benches = [z for _, _, z in mine.blocks.places]
+    # No column of blocks has more benches: a larger number asks for nothing, and isn't counted out.
+    if periods.sink is None or periods.sink > max(benches) - min(benches):
         return found
     number = {place: block for block, place in enumerate(mine.blocks.places)}
     for block in periods.unit:
@@ -327,8 +472,8 @@ def check_texts(periods: Periods, lagged: Rows) -> None:
         named[1:] = [[r if r == way else zeros for way in range(1, uses)] for r in range(1, uses)]
     need(stated["resources"] == named, "periods.toml has other columns of uses")
     rest = [0] if chooses(periods) and uses > 2 else []
-    for block, words in enumerate(words_of("schedule/uses.blocks")):
-        waits = list(map(int, words[4 + uses :]))
+    for block, row in enumerate(numbers_of("schedule/uses.blocks", "uses", 4 + uses)):
+        waits = row[4 + uses :]
         ours = ((lagged[block] or [block]) if columns else []) + rest
         need(waits == ours, f"block {block} waits for {waits}, and by the sink rate for {ours}")
 
@@ -340,15 +485,14 @@ def read_schedule(mine: Mine, never: int) -> dict[int, int]:
     """The period of each block that is dug, of so many. Where it has a way too, this is one by which
     the block gains, or waste."""
     when, waste = dict[int, int](), len(mine.blocks.amounts[0].ways)
-    counts = set[int]()
-    for words in words_of("schedule/schedule.txt"):
-        block, period, *ways = map(int, words)
-        need(block not in when and 0 <= period < never, f"schedule.txt, block {block}")
+    for n, (block, period, *ways) in planned_rows(mine):
+        where = f"schedule/schedule.txt, line {n}"
+        is_first = block not in when
+        need(is_first, f"schedule/schedule.txt has a second line of block {block}: line {n}")
+        need(0 <= period < never, f"{where}, digs block {block} in period {period} of {never}")
         gaining = [way for way in range(waste) if mine.gains[block][way]]
-        need(all(way in (waste, *gaining) for way in ways), f"block {block}: its way")
+        need(all(way in (waste, *gaining) for way in ways), f"{where}: block {block}: its way")
         when[block] = period
-        counts.add(len(ways))
-    need(counts <= {0} or counts == {1}, "schedule.txt has a way for some blocks alone")
     return when
 
 
@@ -698,21 +842,37 @@ def flow_of(
     """What the flow takes from the source, once it is one: within what blocks have, along pairs,
     and as much out of each as comes in."""
     over, ends_of, source, is_whole = [0] * len(node), [0] * len(node), 0, False
-    for words in words_of("schedule/bound.cert.gz"):
+    name, other_mine = "schedule/bound.cert.gz", ": the certificate isn't one of these periods"
+    for n, words in enumerate(words_of(name), 1):
         is_whole = words == ["END"]
-        if words[0] not in ("SOURCE", "REST", "SINK"):
+        if words[0] not in ENDS:
             continue
-        *ends, amount, second = map(int, words[1:])
-        need(amount > 0 and second == 0, f"the certificate's line {' '.join(words)}")
-        need(all(0 <= end < len(node) for end in ends), f"no such node: {' '.join(words)}")
+        where, count = f"{name}, line {n}", ENDS[words[0]]
+        need(
+            len(words) == count + 3,
+            f"{where}, has {len(words)} words, and has to have {words[0]}, {count} of the nodes and 2"
+            " numbers",
+        )
+        *ends, amount, second = [whole_number(where, word) for word in words[1:]]
+        need(
+            all(0 <= end < len(node) for end in ends),
+            f"{where}: no such node among {len(node):,}{other_mine}",
+        )
+        need(amount > 0 and second == 0, f"{where}, has no amount above 0, or a second one")
         if words[0] == "SOURCE":
             ends_of[ends[0]] += amount  # a node may have several lines
-            need(ends_of[ends[0]] <= worths[ends[0]], f"more flows into {ends[0]} than it is worth")
+            need(
+                ends_of[ends[0]] <= worths[ends[0]],
+                f"{where}: more flows into {ends[0]} than it is worth{other_mine}",
+            )
             over[ends[0]] += amount
             source += amount
         elif words[0] == "SINK":
             ends_of[ends[0]] += amount
-            need(ends_of[ends[0]] <= -worths[ends[0]], f"more flows out of {ends[0]} than it costs")
+            need(
+                ends_of[ends[0]] <= -worths[ends[0]],
+                f"{where}: more flows out of {ends[0]} than it costs{other_mine}",
+            )
             over[ends[0]] -= amount
         else:
             (unit, t), (other, s) = node[ends[0]], node[ends[1]]
@@ -723,12 +883,12 @@ def flow_of(
                 and other in above[unit]
                 or s == t - lag
                 and other in sunk[unit],
-                f"the flow goes from {ends[0]} to {ends[1]}, which is no pair",
+                f"{where}: the flow goes from {ends[0]} to {ends[1]}, which is no pair{other_mine}",
             )
             over[ends[0]] -= amount
             over[ends[1]] += amount
-    need(is_whole, "the certificate was cut off")
-    need(not any(over), "what flows into a block doesn't flow out of it")
+    need(is_whole, f"{name} was cut off: it doesn't end with END")
+    need(not any(over), f"{name}: what flows into a block doesn't flow out of it")
     return source
 
 
@@ -763,14 +923,13 @@ class Asked(NamedTuple):
         need(not strange, f"[schedule] has {', '.join(strange)}, which this script doesn't know")
         of_shells = recheck.looked_at("study.toml: [shells]", plan.get("shells", {}), TERMS, ())
         both = {**{name: of_shells[name] for name in TERMS if name in of_shells}, **terms}
-        processes = plan["economics"].get("processes")
+        processes = recheck.economics_of().get("processes")
         if processes is not None:
             need("mill_rate" not in both, "there are processes, and a mill_rate beside them")
         own = [both.get("mill_rate", [])]
         told = dict(both.get("process_rates", {}))
         if processes is not None:
-            named = recheck.economics_of()["processes"]
-            own = [told.pop(each["name"], each.get("rate", [])) for each in named]
+            own = [told.pop(each["name"], each.get("rate", [])) for each in processes]
         need(not told, f"process_rates names {', '.join(told)}, and no process is called so")
         found = [both.get("mining_rate", []), *own]
         rates = [rate if isinstance(rate, list) else [rate] for rate in found]
@@ -803,13 +962,14 @@ class Asked(NamedTuple):
 
     def years(self, totals: list[float]) -> int:
         """How many years there are for so many thousandths of a tonne of each resource: as many as
-        the rates need and one more, where study.toml has no number."""
+        the rates need and one more, where study.toml has no number. More than MOST_PERIODS aren't
+        counted out: pitplan plans no more."""
         if "years" in self.terms:
             return int(self.terms["years"])
         most = 0
         for rates, total in zip(self.rates, totals):
             year, left = 0, total / THOUSAND
-            while rates and left > 0 and (year < len(rates) or rates[-1]):
+            while rates and 0 < left and (year < len(rates) or rates[-1]) and year < MOST_PERIODS:
                 left -= float(rates[min(year, len(rates) - 1)])
                 year += 1
             most = max(most, year)
@@ -827,32 +987,35 @@ def check_terms(mine: Mine, periods: Periods, asked: Asked) -> None:
     years = {
         asked.years([total * share for total in by_best]) for share in (1 - 1e-9, 1.0, 1 + 1e-9)
     }
-    need(count in {year * asked.per_year for year in years}, f"{count} periods aren't those asked")
+    need(
+        count in {year * asked.per_year for year in years},
+        f"schedule/periods.toml has {count} periods, and study.toml asks for others",
+    )
     need(
         (periods.sink, periods.lag) == (asked.terms.get("sink"), asked.per_year),
-        "the sink rate isn't that of study.toml",
+        "schedule/terms.json: the sink rate isn't that of study.toml",
     )
     need(
         (periods.sent is not None) == (asked.terms.get("cutoff") == CUTOFFS[1]),
-        "the cut-off isn't that of study.toml",
+        "schedule/schedule.txt: the cut-off isn't that of study.toml",
     )
     factors = [round(share * THOUSAND) for share in asked.terms.get("pushbacks", [])]
     is_same = periods.pushback == read_pushbacks(factors, periods.unit)
     need(
         is_same and periods.lead == asked.terms.get("lead", 0),
-        "the pushbacks aren't those of study.toml",
+        "schedule/terms.json: the pushbacks aren't those of study.toml",
     )
     fixed = Decimal(str(asked.terms.get("fixed_cost", 0))) / asked.per_year
-    need(periods.fixed_cost == round(fixed), "the fixed cost isn't that of study.toml")
+    need(
+        periods.fixed_cost == round(fixed),
+        "schedule/terms.json: the fixed cost isn't that of study.toml",
+    )
     wanted = asked.weights(count)
     for t, (weight, ours) in enumerate(zip(periods.weights, wanted)):
-        need(weight == ours, f"period {t + 1} weighs {weight}, and by study.toml {ours}")
-    names, parts = resources_of(recheck.treatments_of(recheck.economics_of())), parts_of(periods)
-    for resource, (name, row) in enumerate(zip(names, periods.capacities)):
-        for t, room in enumerate(row):
-            ours = asked.room(resource, t) if asked.rates[resource] else totals[resource]
-            ours -= ours % parts[resource]
-            need(room == ours, f"period {t + 1} has {room} of {name}, and by study.toml {ours}")
+        need(
+            weight == ours,
+            f"schedule/periods.toml: period {t + 1} weighs {weight}, and by study.toml {ours}",
+        )
     panel = asked.terms.get("panel", 1)
     square = {
         block: (x // panel, y // panel, z, periods.pushback[block] if panel > 1 else 0)
@@ -861,8 +1024,24 @@ def check_terms(mine: Mine, periods: Periods, asked: Asked) -> None:
     pairs = {(unit, square[block]) for block, unit in periods.unit.items()}
     need(
         len(pairs) == len({unit for unit, _ in pairs}) == len({place for _, place in pairs}),
-        "units.txt isn't the panels of study.toml",
+        "schedule/units.txt isn't the panels of study.toml"
+        if panel > 1
+        else "schedule/units.txt joins blocks, and study.toml asks for no panels",
     )
+
+
+def check_rooms(periods: Periods, asked: Asked) -> None:
+    """What periods have is the rates of study.toml, as far as what blocks use fills them."""
+    totals = [sum(row[block] for block in periods.unit) for row in periods.uses]
+    names, parts = resources_of(recheck.treatments_of(recheck.economics_of())), parts_of(periods)
+    for resource, (name, row) in enumerate(zip(names, periods.capacities)):
+        for t, room in enumerate(row):
+            ours = asked.room(resource, t) if asked.rates[resource] else totals[resource]
+            ours -= ours % parts[resource]
+            need(
+                room == ours,
+                f"schedule/periods.toml: period {t + 1} has {room} of {name}, and by study.toml {ours}",
+            )
 
 
 def parts_of(periods: Periods) -> list[int]:
@@ -901,7 +1080,7 @@ def check_uses(mine: Mine, periods: Periods, rows: recheck.OfRows) -> None:
             off = 0.5 + recheck.LEFT * ours * THOUSAND
             need(
                 abs(kept - ours * THOUSAND) <= off,
-                f"block {block} uses {kept} of {name}, and by the table {ours * THOUSAND:.3f}",
+                f"schedule/uses.blocks: block {block} uses {kept} of {name}, and by the table {ours * THOUSAND:.3f}",
             )
 
 
@@ -1148,6 +1327,23 @@ def binding(
     return binds
 
 
+# --- What the planner was shown: the schedule's worth, and its bound ---
+
+
+def check_told(periods: Periods, npv: Decimal, bound: Decimal) -> None:
+    """What the planner was shown is what is found here; a bound was rounded up to millionths. So a
+    certificate that proves less than the planner's is told, although it is a flow."""
+    with localcontext() as exact:
+        exact.prec = 100
+        rounded = bound.quantize(Decimal(1) / MILLION, "ROUND_CEILING")
+    for what, told, ours in zip(("npv", "bound"), periods.told, (npv, rounded)):
+        need(
+            Decimal(told) == ours,
+            f"schedule/terms.json: {what}, which the planner was shown, is {told}, and here it"
+            f" comes to {ours:f}",
+        )
+
+
 # --- All checks, in their order ---
 
 
@@ -1156,41 +1352,41 @@ def main() -> int:
     try:
         mine = read_mine()
         periods = read_periods(mine)
-        lagged, when = sinking(mine, periods), read_schedule(mine, len(periods.weights))
-        check_texts(periods, lagged)
+        when = read_schedule(mine, len(periods.weights))
         check_pit(periods)
-        npv = check_schedule(mine, periods, lagged, when)
-        bound = check_bound(mine, periods, lagged)
-        need(npv <= bound, f"the schedule is worth {npv:,f}, and its bound is {bound:,f}")
         asked = Asked.read()
+        # What others follow from comes first, so that a cause is told.
         check_terms(mine, periods, asked)
         rows = recheck.check_table(Quiet(), mine.blocks, recheck.facts_of())
         need(rows is not None, "the rows of the table aren't the blocks")
         assert rows is not None
         check_uses(mine, periods, rows)
+        check_rooms(periods, asked)
+        lagged = sinking(mine, periods)
+        check_texts(periods, lagged)
+        npv = check_schedule(mine, periods, lagged, when)
+        bound = check_bound(mine, periods, lagged)
+        need(npv <= bound, f"the schedule is worth {npv:,f}, and its bound is {bound:,f}")
         check_tables(mine, periods, asked, when, rows)
-    except (
-        *(Wrong, recheck.Bad, OSError, EOFError, zlib.error, AttributeError),
-        *(
-            ArithmeticError,
-            ValueError,
-            KeyError,
-            IndexError,
-            TypeError,
-            MemoryError,
-            RecursionError,
-        ),
-    ) as error:
-        print(f"WRONG {error or type(error).__name__}")
+        check_told(periods, npv, bound)
+    except (Wrong, recheck.Bad) as error:
+        print(f"WRONG {error}")
+        return 1
+    except OSError as error:
+        print(f"WRONG {recheck.reason(error)}")
+        return 1
+    except UNFIT as error:
+        print(f"WRONG the files of the bundle don't fit together: {recheck.reason(error)}")
         return 1
     print(f"ok    the schedule keeps slopes, sink rate and capacities, and is worth {npv:,f}")
     print(
         f"ok    no schedule of the pit's blocks by these terms, {of_ways(periods)}, is worth more than {bound:,f}"
     )
     print(
-        "ok    what periods weigh and have is what study.toml says, and what blocks use and bring"
+        "ok    what periods weigh and have is what study.toml says, and what the pit's blocks use"
     )
-    print("      what it and the planner's table say")
+    print("      and bring what it and the planner's table say")
+    print("ok    worth and bound are those that the planner was shown")
     print(
         "ok    tables/schedule.csv and tables/schedule_benches.csv are what the schedule comes to"
     )

@@ -71,6 +71,8 @@ def write_schedule(
         "pushbacks": made.terms.pushbacks,
         "lead": made.terms.lead,
         "fixed_cost": made.terms.fixed_cost,
+        "npv": f"{found.npv:f}",  # exact, as the planner's schedule.json has them
+        "bound": f"{found.bound:f}",
     }
     (folder / "terms.json").write_text(json.dumps(terms))
     shutil.copyfile(kept.certificate, folder / kept.certificate.name)

@@ -287,10 +287,16 @@ def _tell(schedule: Schedule, years: pd.DataFrame) -> None:
             f"less the fixed costs of the {counted((years['fixed_cost'] > 0).sum(), word)} in which"
             f" rock is dug: {currency} {math.floor(schedule.npv):,}"
         )
+    # pit bound knows no fixed costs: what they take from its bound is arithmetic of this package
+    by_whom = (
+        "by a bound that pit bound has accepted, less the fixed costs, which pitplan takes off"
+        if terms.fixed_cost
+        else "which pit bound has accepted"
+    )
     say(
         f"by these terms{_by_ways(terms.is_by_year)} no schedule brings more than {currency}"
-        f" {math.ceil(schedule.bound):,}, which pit bound has accepted: this one is at most"
-        f" {schedule.gap_text} below the best"
+        f" {math.ceil(schedule.bound):,}, {by_whom}: this one is at most {schedule.gap_text} below the"
+        " best"
     )
     if schedule.end:
         say(schedule.end.words)

@@ -149,7 +149,7 @@ def pairs_of(study: Study, sink: int | None, blocks: Ints) -> _PitPairs:
             step[place[b]] = place[p]
     is_rock = study.model.is_rock[blocks]
     at = np.arange(len(blocks))
-    for _ in range(sink):
+    for _ in range(min(sink, study.model.index.shape[2])):  # after all benches none is left
         at = np.where(at >= 0, step[at], -1)
     lower = np.flatnonzero((at >= 0) & is_rock)
     lower = lower[is_rock[at[lower]]]

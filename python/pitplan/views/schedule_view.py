@@ -29,13 +29,16 @@ if TYPE_CHECKING:
 _NOTE = (
     "When each block of the best pit is dug. pit schedule says that after each {period} the mine keeps"
     " the slopes, that none uses more than its rates, and what the schedule is worth. No schedule of"
-    " these blocks by these terms, {choice}, brings more than the bound, which pit has accepted. Ore is"
-    " what goes to {there} {way}."
+    " these blocks by these terms, {choice}, brings more than the bound, {by_whom}. Ore is what goes"
+    " to {there} {way}."
 )
 _NO_CLASSES = (
     'There is no table of ore by class: it has what would pay at {there}, and with cutoff = "by'
     ' year" some of that goes to waste.'
 )
+_ACCEPTED = "which pit has accepted"
+# pit bound knows no fixed costs: what they take from its bound is arithmetic of this package
+_ACCEPTED_BEFORE = "one that pit has accepted less the fixed costs, which pitplan takes off"
 _FIXED = " Cash flow and net present value are what is left after the fixed costs."
 
 
@@ -75,7 +78,13 @@ def schedule(schedule: Schedule, years: pd.DataFrame) -> View:
         ViewTable(f"By {word}", word.capitalize(), names, columns),
         surfaces(study, ((f"the mine after {word} {name}", held) for name, held in dug.items())),
         f"{word.capitalize()} in which the block is dug",
-        _NOTE.format(period=word, there=there, way=way, choice=choice)
+        _NOTE.format(
+            period=word,
+            there=there,
+            way=way,
+            choice=choice,
+            by_whom=_ACCEPTED_BEFORE if terms.fixed_cost else _ACCEPTED,
+        )
         + (_FIXED if terms.fixed_cost else ""),
         names,
         len(names),

@@ -138,6 +138,8 @@ FORM = "and has to be a place of three whole numbers, and numbers in the columns
         (of_bytes(BLOCKS, lambda data: data.replace(b"\n", b" 5\n", 1)), "7 fields"),
         (of_bytes(BLOCKS, lambda data: data.replace(b"\n", b" 5\n")), "7 fields"),
         (of_bytes(BLOCKS, lambda data: b"% the mine\n" + data), "begins with no number of a block"),
+        *((of_text(BLOCKS, "^7 ", start), FORM) for start in ("07 ", "7 0", "7 -0", "7 +")),
+        (of_text(BLOCKS, r"^(7 \d+ \d+ \d+) ", r"\1 0"), FORM),
         (
             of_text("model/settings.toml", "mining = 2", "mining = 3"),
             "other columns of mine.blocks",
@@ -188,6 +190,10 @@ def first_twice(data):
 
 
 UNITS, USES = "schedule/units.txt", "schedule/uses.blocks"
+PLAN, PERIODS, TERMS_FILE = (
+    f"schedule/{n}" for n in ("schedule.txt", "periods.toml", "terms.json")
+)
+CERTIFICATE = "schedule/bound.cert.gz"
 
 
 @pytest.mark.parametrize(
@@ -199,7 +205,19 @@ UNITS, USES = "schedule/units.txt", "schedule/uses.blocks"
         (of_text(USES, "^3 0 ", "3:0 "), "uses.blocks has the line '3:0"),
         (of_text(USES, "$", "\r"), "uses.blocks has the line"),
         (of_text("schedule/schedule.txt", "$", "\r9 9"), "schedule.txt has the line"),
-        (of_text("schedule/periods.toml", "$", " # a\r"), r"has the character '\r'"),
+        (of_text(PERIODS, "$", " # a\r"), r"has the character '\r'"),
+        (of_text(PERIODS, r"\]$", "] # all of it"), "periods.toml, line 1, is 'weights"),
+        (of_text(PERIODS, r"\b0\b", "0x0"), "periods.toml, line 2, is 'resources"),
+        (of_text(PERIODS, "600000000", "600_000_000"), "periods.toml, line 3, is 'capacities"),
+        (of_text(PERIODS, r"\Z", "waits = []\n"), "waits is [], and has to be a list of 1 or more"),
+        (of_text(TERMS_FILE, ": ", ":"), "terms.json, line 1, is"),
+        (of_text("schedule/schedule.txt", "^", "0"), "line 1, has '00', and has to have a plain"),
+        (
+            of_text("schedule/schedule.txt", "^0 ", "-0 "),
+            "line 1, has '-0', and has to have a plain",
+        ),
+        (of_text(UNITS, "^", "0"), "units.txt, line 1, has '00', and has to have a plain"),
+        (of_text(USES, "^3 0 ", "3 00 "), "uses.blocks, line 4, has '00', and has to have a plain"),
         (of_bytes(UNITS, lambda data: data[:-1]), "units.txt has no line feed at its end"),
     ],
 )
@@ -208,6 +226,120 @@ def test_what_pit_reads_otherwise_of_a_plan_is_wrong(planned, tmp_path, change, 
     assert status == 1, said
     assert said.startswith("WRONG"), said
     assert words in said, said
+
+
+def of_terms(**values):
+    """Other values of terms.json."""
+
+    def made(folder):
+        path = folder / TERMS_FILE
+        path.write_text(json.dumps(json.loads(path.read_text()) | values))
+
+    return made
+
+
+def without_flow(folder):
+    """A certificate that pays for nothing: a flow all the same."""
+    lines = gzip.decompress((folder / CERTIFICATE).read_bytes()).split(b"\n")
+    kept = [line for line in lines if not line.startswith((b"SOURCE", b"REST", b"SINK"))]
+    (folder / CERTIFICATE).write_bytes(gzip.compress(b"\n".join(kept)))
+
+
+def one_byte_less(data):
+    """The last byte of the checksum is another."""
+    return data[:-5] + bytes([data[-5] ^ 255]) + data[-4:]
+
+
+def of_packed(old, new):
+    """Text of the certificate of the bound."""
+
+    def made(folder):
+        text = gzip.decompress((folder / CERTIFICATE).read_bytes()).decode()
+        assert text != (changed := re.sub(old, new, text, count=1, flags=re.M))
+        (folder / CERTIFICATE).write_bytes(gzip.compress(changed.encode()))
+
+    return made
+
+
+def emptied(name):
+    return of_bytes(name, lambda data: b"")
+
+
+COST = "fixed_cost is {}, and has to be a whole number from 0 to"
+
+
+@pytest.mark.parametrize(
+    "change, words",
+    [
+        (of_terms(sink=10**9), f"{TERMS_FILE}: the sink rate isn't that of study.toml"),
+        *(
+            (of_terms(sink=sink), f"{TERMS_FILE}: sink is {said}, and has to be null or a whole")
+            for sink, said in ((0, "0"), (True, "true"), (2.0, "2.0"), ([], "[]"))
+        ),
+        (of_terms(lead="x"), f"{TERMS_FILE}: lead is 'x', and has to be a whole number from 0 to"),
+        (of_terms(lead=10**9), f"{TERMS_FILE}: lead is 1000000000, and has to be"),
+        (of_terms(lag=0), f"{TERMS_FILE}: lag is 0, and has to be a whole number from 1 to"),
+        (of_terms(fixed_cost=-1), COST.format(-1)),
+        (of_terms(fixed_cost=True), COST.format("true")),
+        (of_terms(pushbacks=5), f"{TERMS_FILE}: pushbacks is 5, and has to be a list of whole"),
+        (of_terms(bound=5), f"{TERMS_FILE}: bound is 5, and has to be an amount in quotes"),
+        (of_text(TERMS_FILE, '"lead": 0, ', ""), f"{TERMS_FILE}: lead isn't there, and has to be"),
+        (of_text(UNITS, r"^(\d+) 3$", r"\1 1000000"), f"{UNITS}: block 4 has unit 1000000, and has"),
+        (of_text(UNITS, r"^(\d+) 3$", r"\1 1000000000"), f"{UNITS}: block 4 has unit 1000000000"),
+        (of_text(UNITS, r"^(\d+) 3$", r"\1 2"), f"{UNITS} joins blocks, and study.toml asks for no"),
+        (of_text(UNITS, "$", " 7"), f"{UNITS}, line 1, has 3 words, and has to have 2: a block"),
+        (of_text(UNITS, "^0", "X"), f"{UNITS}, line 1, has 'X', and has to have a plain whole"),
+        (of_text(UNITS, "^0", "9999"), f"{UNITS}, line 1, is of block 9999, which isn't in the model"),
+        (of_text(PLAN, "^0", "9999"), f"{PLAN}, line 1, is of block 9999, which isn't in the model"),
+        (of_text(PLAN, r"^0 \d+", "0 5"), f"{PLAN}, line 1, digs block 0 in period 5 of 5"),
+        (of_bytes(PLAN, first_twice), f"{PLAN} has a second line of block 0: line 89"),
+        (emptied(PLAN), f"{PLAN} is empty: it has to have a line for each block that is dug"),
+        (emptied(UNITS), f"{UNITS} is empty: it has to have a line for each block of the pit"),
+        (emptied(USES), f"{USES} hasn't a line for each block of the model"),
+        (of_text(PERIODS, "^weights.*\n", ""), f"{PERIODS}: weights isn't there, and has to be a list"),
+        (of_text(PERIODS, "^weights.*", "weights = 5"), f"{PERIODS}: weights is 5, and has to be a list"),
+        (of_text(PERIODS, r"\[\d+,", "[true,"), f"{PERIODS}: weights is [True, "),
+        (of_text(PERIODS, r"\[\d+,", "[1.5,"), f"{PERIODS}: weights is [1.5, "),
+        (of_text(PERIODS, "^weights.*", "weights = [1, 2, 3, 4, 5]"), f"{PERIODS}: weights rise: period 2"),
+        (of_text(PERIODS, "890973", "890974"), f"{PERIODS}: period 2 weighs 890974, and by study.toml"),
+        (of_text(PERIODS, r"\[\[\d+, ", "[["), f"{PERIODS}: capacities aren't lists of 5 periods for 2"),
+        (of_text(PERIODS, r"^(multipliers.*)\[[^\]]*\]\]", r"\1[9, 9, 9, 9, 9]]"), "isn't one of these periods"),
+        (of_bytes(CERTIFICATE, one_byte_less), f"{CERTIFICATE}: the packed file is damaged"),
+        (of_packed("^SOURCE", "SOURCE 1"), f"{CERTIFICATE}, line"),
+        (of_packed("^SOURCE ", "SOURCE X"), "and has to have a plain whole number"),
+        (of_text("study.toml", r"years = 5\nmining_rate = 600e3", "mining_rate = 1e-9"), "has 5 periods, and"),
+    ],
+)  # fmt: skip
+def test_a_plan_of_values_that_may_not_be_is_told_by_file_and_key(planned, tmp_path, change, words):
+    """At once, and with little memory, however large a number is."""
+    status, said = told_of_plan(planned, tmp_path, change)
+    assert status == 1, said
+    assert said.startswith("WRONG"), said
+    assert words in said, said
+
+
+@pytest.mark.parametrize("more", ["", "panel = 2\n", "pushbacks = [0.6]\nfixed_cost = 2e6\n"])
+def test_a_certificate_that_proves_less_is_told(tmp_path, more):
+    """No flow is a flow, whose bound is larger than the one that the planner was shown."""
+    frame, text = mines.table(7, 6, 4, 5), RICH + TERMS + more
+    folder, found = with_schedule(tmp_path, frame, text, (0.05, 60))
+    path = folder / TERMS_FILE
+    terms = json.loads(path.read_text())
+    assert (terms["npv"], terms["bound"]) == (f"{found.npv:f}", f"{found.bound:f}")
+    (tmp_path / "other").mkdir()
+    status, said = told_of_plan(folder, tmp_path, without_flow)
+    assert status == 1, said
+    assert f"bound, which the planner was shown, is {found.bound:f}, and here it comes to" in said
+    status, said = told_of_plan(folder, tmp_path / "other", of_terms(npv=f"{found.npv + 1:f}"))
+    assert (status, "npv, which the planner was shown, is" in said) == (1, True), said
+
+
+def test_a_sink_rate_of_more_benches_than_there_are_holds(tmp_path):
+    """It asks for nothing, and isn't counted out."""
+    text = RICH + TERMS + "sink = 1000000000\n"
+    folder = with_schedule(tmp_path, mines.table(7, 6, 4, 5), text, (0.05, 60))[0]
+    status, said = told_of_plan(folder, tmp_path, lambda copy: None)
+    assert status == 0, said
 
 
 def test_a_plan_of_single_blocks_is_one_by_study_toml(planned, tmp_path, capsys, monkeypatch):

@@ -3,6 +3,7 @@ what is kept of it, and refused: by `pit schedule --best`, by the checker that a
 along, or by the checks of this package."""
 import gzip
 import json
+import os
 import re
 import shutil
 from dataclasses import replace
@@ -14,15 +15,18 @@ import pytest
 from pitplan import Disagreement, PlanError, Study
 from pitplan.audit import recheck_schedule
 from pitplan.audit.bundle import write_bundle
+from pitplan.cli import schedule as of_screen
 from pitplan.pit.program import Pit
 from pitplan.schedule import Schedule
 from pitplan.schedule.pit_schedule import judged
 from pitplan.schedule.kept_search import Kept
 from pitplan.schedule.production import Production
+from pitplan.schedule.tables import Tables
 from pitplan.schedule.search import Search
 from pitplan.schedule.destinations import Timetable
 from pitplan.schedule.unit_texts import UnitTexts
 from pitplan.study.study_file import read_study_file
+from pitplan.views import schedule_view
 from tiny_mines import TinyMine
 
 RICH = mines.STUDY_TOML.replace("price = 8500", "price = 24000").replace(
@@ -253,10 +257,10 @@ BUNDLED = {
     "a year's weight shifted": (of_rows(PERIODS, "weights", lambda r: [10**6, *r[:-1]]), "weighs|flows|pair"),
     "mid-year taken as start": (of_rows(PERIODS, "weights", from_start), "weighs|flows|pair"),
     "rates of another year": (of_rows(PERIODS, "capacities", lambda r: [[row[-1], *row[:-1]] for row in r]), "uses|has"),
-    "a multiplier's sign": (of_rows(PERIODS, "multipliers", lambda r: [[-v - 1 for v in row] for row in r]), "below 0"),
-    "feed without dilution": (of_text("schedule/uses.blocks", without_dilution), "flows|of feed"),
+    "a multiplier's sign": (of_rows(PERIODS, "multipliers", lambda r: [[-v - 1 for v in row] for row in r]), "at least 0"),
+    "feed without dilution": (of_text("schedule/uses.blocks", without_dilution), "of mill, and by the table"),
     "a sink of one bench more": (of_terms(sink=lambda sink: sink + 1), "sink rate|pair|flows"),
-    "a sink of no year": (of_terms(lag=lambda lag: 0), "sink rate|pair|flows"),
+    "a sink of no year": (of_terms(lag=lambda lag: 0), "lag is 0, and has to be"),
     "a block's way forgotten": (of_ways(first_to_waste), "schedule.csv"),
     "the way of one block left out": (of_ways(lambda rows: [rows[0][:2], *rows[1:]]), "way for some blocks"),
     "a way that gains nothing": (of_ways(first_to_the_mill), "its way|schedule.csv|uses"),
@@ -295,7 +299,24 @@ def test_the_bundles_checker_refuses(planned, tmp_path, monkeypatch, capsys, mis
 
 def test_the_bundles_checker_takes_what_is_as_it_was(planned, monkeypatch, capsys):
     status, said = checked(planned.bundle, monkeypatch, capsys)
-    assert (status, said.count("ok ")) == (0, 4), said
+    assert (status, said.count("ok ")) == (0, 5), said
+
+
+def test_what_is_said_before_and_after_fixed_costs_is_told_apart(planned, monkeypatch, capsys):
+    """`pit` knows none: what they take from its bound is arithmetic of pitplan and of the checker."""
+    years = Tables(planned.found).years()
+    of_screen._tell(planned.found, years)
+    said = capsys.readouterr()
+    words = "by a bound that pit bound has accepted, less the fixed costs, which pitplan takes off: this"
+    assert words in said.out + said.err
+    note = schedule_view.schedule(planned.found, years).note
+    assert "one that pit has accepted less the fixed costs, which pitplan takes off." in note
+    monkeypatch.setattr(recheck_schedule.recheck, "HERE", planned.bundle)
+    recheck_schedule.recheck.check_planned(
+        recheck_schedule.recheck.Report(), os.environ["PIT"], False
+    )
+    (line,) = capsys.readouterr().out.splitlines()
+    assert "before fixed costs, which recheck_schedule.py takes off: SCHEDULE" in line
 
 
 def a_year_less(terms):

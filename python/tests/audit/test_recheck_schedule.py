@@ -307,11 +307,17 @@ def of_terms(bundle):
     [
         (lambda b: of_schedule(b, earlier), "is dug before|sink rate|uses"),
         (lambda b: of_schedule(b, lambda text: text + text.splitlines()[0]), "schedule.txt"),
-        (of_periods("capacities", lambda rows: [[1] * len(row) for row in rows]), "uses"),
-        (of_periods("weights", lambda row: row[::-1]), "weights don't fall"),
-        (of_periods("weights", lambda row: [row[0]] * len(row)), "flows|pair"),
-        (of_periods("multipliers", lambda rows: [[-1, *row[1:]] for row in rows]), "below 0"),
-        (of_periods("multipliers", lambda rows: [[0] * len(row) for row in rows]), "flows"),
+        (
+            of_periods("capacities", lambda rows: [[1] * len(row) for row in rows]),
+            "1 has 1 of mining",
+        ),
+        (of_periods("weights", lambda row: row[::-1]), "weights rise: period 2"),
+        (of_periods("weights", lambda row: [row[0]] * len(row)), "period 2 weighs"),
+        (of_periods("multipliers", lambda rows: [[-1, *row[1:]] for row in rows]), "at least 0"),
+        (
+            of_periods("multipliers", lambda rows: [[0] * len(row) for row in rows]),
+            "flows .* isn't one of these periods",
+        ),
         (of_certificate(r"^SOURCE (\d+) (\d+) 0$", r"SOURCE \1 9\2 0"), "flows"),
         (of_certificate(r"^REST (\d+) \d+ ", r"REST \1 \1 "), "no pair"),
         (of_certificate(r"^END\n", ""), "cut off"),

@@ -47,6 +47,8 @@ def test_units_and_terms_are_those_of_the_schedule(found):
         "pushbacks": [600],
         "lead": 1,
         "fixed_cost": 0,
+        "npv": f"{found[1].npv:f}",
+        "bound": f"{found[1].bound:f}",
     }
 
 
