@@ -149,7 +149,7 @@ def _of_level(work: _Work, currency: str, unit: str) -> Iterator[Strange]:
         yield Strange(
             f"{work.what} costs {said}",
             f"{usual.low:g} to {usual.high:g} is usual",
-            f"{name} = {better} in {work.place}, if so much is meant"
+            f"{name} = {better} in {work.place}, if that is what is meant"
             if better
             else f"{name} in {work.place}, which is for a {unit}",
             work.key,

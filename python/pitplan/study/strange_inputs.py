@@ -469,7 +469,6 @@ def of_rates(model: Model, priced: Priced, rates: Mapping[str, Any]) -> Iterator
             (name, rate, f"rate of process {name}", ("economics", PROCESSES, name, "rate"))
             for name, rate in of_processes
         ]
-    yield from _of_more_than_is_dug(priced, dug, "mining_rate in [shells]", each)
     asked: list[_Rate] = [
         ("rock", dug, float(tonnes.sum()), "mining_rate in [shells]", ("shells", "mining_rate"))
     ]
@@ -487,7 +486,9 @@ def of_rates(model: Model, priced: Priced, rates: Mapping[str, Any]) -> Iterator
                 key,
             )
         asked.append((f"feed of {name}", rate, feed, f"rate of process {name}", key))
-    yield from _of_long_or_short(asked)
+    yield from (off := list(_of_long_or_short(asked)))
+    if not off:  # beside a rate that is far off another only looks too large
+        yield from _of_more_than_is_dug(priced, dug, "mining_rate in [shells]", each)
 
 
 # a way, its rate or those of the years, what stands for that in words, and its key

@@ -784,7 +784,7 @@ KEYS = (
         "{currency} a year",
         least=0,
         default=0,
-        note="what a year costs in which anything is dug, however much",
+        note="currency a year, of each year in which anything is dug, however much",
         is_off=True,
     ),
     Key(METALS, "name", "text", "of the metal", "Metal", is_needed=True),

@@ -36,19 +36,19 @@ def frame():
         (
             {"mining": 24},
             "digging a tonne costs 24 $; 1 to 10 is usual\n"
-            "  try: mining = 2.4 in [economics], if so much is meant",
+            "  try: mining = 2.4 in [economics], if that is what is meant",
             MINING,
         ),
         (
             {"mining": 0.24},
             "digging a tonne costs 0.24 $; 1 to 10 is usual\n"
-            "  try: mining = 2.4 in [economics], if so much is meant",
+            "  try: mining = 2.4 in [economics], if that is what is meant",
             MINING,
         ),
         (
             {"mining": 350},
             "digging a tonne costs 350 $; 1 to 10 is usual\n"
-            "  try: mining = 3.5 in [economics], if so much is meant",
+            "  try: mining = 3.5 in [economics], if that is what is meant",
             MINING,
         ),
         (  # no power of ten makes a usual cost of it
@@ -66,25 +66,25 @@ def frame():
         (
             {"mining": {"OXI": 2.1, "SUL": 21}},
             "digging a tonne costs 21 $ of SUL; 1 to 10 is usual\n"
-            "  try: mining = { OXI = 2.1, SUL = 2.1 } in [economics], if so much is meant",
+            "  try: mining = { OXI = 2.1, SUL = 2.1 } in [economics], if that is what is meant",
             MINING,
         ),
         (
             {"processing": 900},
             "treating a tonne costs 900 $; 2 to 60 is usual\n"
-            "  try: processing = 9 in [economics], if so much is meant",
+            "  try: processing = 9 in [economics], if that is what is meant",
             PROCESSING,
         ),
         (
             {"processing": {"OXI": 750, "SUL": 900}},
             "treating a tonne costs 750 $ of OXI, 900 $ of SUL; 2 to 60 is usual\n"
-            "  try: processing = { OXI = 7.5, SUL = 9 } in [economics], if so much is meant",
+            "  try: processing = { OXI = 7.5, SUL = 9 } in [economics], if that is what is meant",
             PROCESSING,
         ),
         (
             way(0.4),
             "treating a tonne by leach costs 0.4 $; 2 to 60 is usual\n"
-            "  try: cost = 4 in process leach, if so much is meant",
+            "  try: cost = 4 in process leach, if that is what is meant",
             LEACH,
         ),
         ({"mining": 24, "currency": "A$"}, "digging a tonne costs 24 A$; 1 to 10", MINING),

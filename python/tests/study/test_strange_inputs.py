@@ -366,6 +366,15 @@ def test_a_cause_is_told_before_what_comes_of_it(tmp_path, text, frame, said):
     assert at == sorted(at), texts
 
 
+def test_beside_a_rate_that_is_far_off_another_is_not_too_large(tmp_path):
+    """20 million tonnes were meant; to swap the rates would make it worse."""
+    change = "mining_rate = 1e6\nmill_rate = 5e5", "mining_rate = 20\nmill_rate = 8e6"
+    found = check(slipped(tmp_path / "s", change, None))
+    texts = list(map(str, found.looks))
+    assert "at 20 tonnes a year the rock of the whole model takes" in texts[0]
+    assert not any("other way round" in text for text in texts), texts
+
+
 def test_a_rock_with_grades_that_weighs_nothing_looks_wrong(tmp_path):
     """Its blocks and those with a grade are counted in the table; air, a rock without any grade, and
     one that weighs something in a block are right."""
