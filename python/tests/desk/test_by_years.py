@@ -19,7 +19,7 @@ return years && [years.getAttribute("aria-label"), [...years.querySelectorAll("t
 
 PLAN = """
 if (!document.documentElement?.dataset.ready) return null;
-return [...document.querySelector("tbody").rows].map(row => [...row.cells].slice(0, 2)
+return [...document.querySelector("#tables tbody").rows].map(row => [...row.cells].slice(0, 2)
   .map(cell => Number(cell.textContent.replaceAll(",", ""))));
 """
 
