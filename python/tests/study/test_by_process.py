@@ -400,15 +400,18 @@ def test_a_rock_without_grades_that_no_process_takes_is_waste_and_no_more(tmp_pa
 
 
 def test_a_process_that_gets_no_block_is_told(tmp_path):
+    """After what comes before it: that such a cost is far off."""
     dear = ('cost = "3.0 + 0.002 * (160 - ZC)"', "cost = 90")
     _, looks, keys = looks_of(tmp_path, dear)
     assert looks == [
+        "treating a tonne by leach costs 90 $; 2 to 60 is usual\n"
+        "  try: cost = 9 in process leach, if that is what is meant",
         "no block goes to leach at the full price; it costs 90 $ a tonne\n"
-        "  try: cost, recovery and rocks of process leach"
+        "  try: cost, recovery and rocks of process leach",
     ]
-    assert keys == [("economics", "processes", "leach", "cost")]
+    assert keys == [("economics", "processes", "leach", "cost")] * 2
     _, looks, _ = looks_of(tmp_path, (dear[0], 'cost = "90 + ZC"'))
-    assert [look.split("\n")[0] for look in looks] == ["no block goes to leach at the full price"]
+    assert looks[-1].split("\n")[0] == "no block goes to leach at the full price"
 
 
 def test_a_cutoff_by_year_may_stand_beside_several_processes(tmp_path):
