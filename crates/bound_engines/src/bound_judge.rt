@@ -23,7 +23,7 @@ use counted_devices::CountedRead;
 use engine_faults::EngineFault;
 use expanded_mine::bound_by;
 use fixed_worth::MOST_BLOCKS;
-use mine_inputs::{MineToCheck, Worths};
+use mine_inputs::{ListedMine, Worths};
 use planned_mine::{
     BesideRead, BoundFault, Expanded, Figured, NodesProblem, figured_of, nodes_of_figures,
 };
@@ -44,7 +44,7 @@ pub enum BoundJudgement {
 #[derive(Drop)]
 pub(crate) struct Case {
     pub(crate) alloc: Global,
-    pub(crate) mine: MineToCheck,
+    pub(crate) mine: ListedMine,
     pub(crate) beside: BesideRead,
 }
 
@@ -160,7 +160,7 @@ pub fn factor_of_nodes<C: CountedRead>(
 // The bound of a certificate of which nothing was read.
 fn bound_from<C: CountedRead>(
     alloc: Global,
-    mine: MineToCheck,
+    mine: ListedMine,
     beside: BesideRead,
     stream: &mut CertStream<C>,
 ) -> Result<BoundJudgement, BoundFault>
@@ -180,7 +180,7 @@ fn bound_from<C: CountedRead>(
         → C.failed stream.new.lines.from ≡ C.failed stream.old.lines.from }
     ensures beyond { IfErr result IsBeyondTexts }
 {
-    let MineToCheck {
+    let ListedMine {
         worths,
         predecessors,
     } = mine;

@@ -23,7 +23,7 @@ use check_engines::judgement_line::line_of;
 use check_engines::{Judgement, Verdict};
 use counted_devices::{CountedRead, CountedWrite, write_text};
 use engine_faults::EngineFault;
-use mine_inputs::{MineInputs, mine_to_check};
+use mine_inputs::{MineInputs, listed_mine};
 use planned_mine::{BoundFault, BoundInputs, beside_from};
 use schedule_engines::{PlanFault, Weighed};
 use std::alloc::{AllocError, Global};
@@ -88,7 +88,7 @@ fn verdict_of(told: BoundJudgement) -> Verdict
 /// first fault.
 ///
 /// # Errors
-/// Those of `mine_inputs::mine_to_check`, then those of the periods, without multipliers `Missing`, and of the blocks
+/// Those of `mine_inputs::listed_mine`, then those of the periods, without multipliers `Missing`, and of the blocks
 /// that have the uses; where a pit's certificate is given, those of `check_engines::check_engine` after its inputs;
 /// `Nodes` with `TooManyNodes`; those of the certificate's header, `WrongPrice` where it isn't
 /// the price of the pit's; `Periods` with `TooLarge`,
@@ -135,7 +135,7 @@ pub fn bound_engine<R: Threads + Sync, D: CountedRead, C: CountedRead, W: Counte
         × (C.failed certificates.new.nodes ≡ C.failed certificates.old.nodes)
         × (W.failed out.new ≡ W.failed out.old) }
 {
-    let mine = match mine_to_check(rt, alloc, inputs) {
+    let mine = match listed_mine(rt, alloc, inputs) {
         Ok(mine) => mine,
         Err(fault) => return Err(BoundFault::Plan(PlanFault::Engine(fault))),
     };

@@ -22,7 +22,7 @@ use crate::part_judge::judge_part;
 use crate::pit_part::{Parted, parted_by};
 use core::mem::replace_with;
 use counted_devices::CountedRead;
-use mine_inputs::MineToCheck;
+use mine_inputs::ListedMine;
 use planned_mine::{BesideRead, BoundFault};
 use std::alloc::Global;
 use std::thread::Threads;
@@ -31,7 +31,7 @@ use std::thread::Threads;
 fn told_within<R: Threads + Sync, C: CountedRead>(
     rt: &R,
     alloc: Global,
-    mine: MineToCheck,
+    mine: ListedMine,
     beside: &BesideRead,
     pit: &mut C,
     nodes: &mut C,
@@ -70,7 +70,7 @@ fn told_within<R: Threads + Sync, C: CountedRead>(
 pub(crate) fn told_by_certificates<R: Threads + Sync, C: CountedRead>(
     rt: &R,
     alloc: Global,
-    mine: MineToCheck,
+    mine: ListedMine,
     beside: BesideRead,
     certificates: &mut Certificates<C>,
 ) -> Result<BoundJudgement, BoundFault>

@@ -22,7 +22,7 @@ use check_pit::{CertFault, CertStream, StreamBytes};
 use counted_devices::CountedRead;
 use engine_faults::{CertificateProblem, EngineFault};
 use held_pairs::HeldPairs;
-use mine_inputs::{MineToCheck, Worths};
+use mine_inputs::{ListedMine, Worths};
 use ordered_group::Group;
 use planned_mine::BoundFault;
 use schedule_engines::PlanFault;
@@ -35,7 +35,7 @@ use std::thread::Threads;
 pub(crate) struct PitCase<'a, R> {
     pub(crate) rt: &'a R,
     pub(crate) alloc: Global,
-    pub(crate) mine: MineToCheck,
+    pub(crate) mine: ListedMine,
 }
 
 /// A mine with the pit that a certificate proves.
@@ -101,7 +101,7 @@ fn header_from<C: CountedRead>(
 fn pit_from<R: Threads + Sync, C: CountedRead>(
     rt: &R,
     alloc: Global,
-    mine: MineToCheck,
+    mine: ListedMine,
     stream: &mut CertStream<C>,
 ) -> Result<PitMine, BoundFault>
     requires count { C.failed stream.old.lines.from < 2 ^ 64 - 1 }
@@ -117,7 +117,7 @@ fn pit_from<R: Threads + Sync, C: CountedRead>(
         → C.failed stream.new.lines.from ≡ C.failed stream.old.lines.from }
     ensures beyond { IfErr result IsBeyondTexts }
 {
-    let MineToCheck {
+    let ListedMine {
         worths,
         predecessors,
     } = mine;

@@ -15,7 +15,7 @@ use check_pit::PitFault;
 use core::mem::replace_with;
 use counted_devices::CountedRead;
 use held_pairs::HeldPairs;
-use mine_inputs::MineToCheck;
+use mine_inputs::ListedMine;
 use planned_mine::{BesideRead, BoundFault, part_of_plan};
 use std::alloc::Global;
 use std::thread::Threads;
@@ -76,7 +76,7 @@ fn part_of_pit(alloc: Global, pit: PitMine, beside: &BesideRead) -> Result<Parte
 pub fn parted_by<R: Threads + Sync, C: CountedRead>(
     rt: &R,
     alloc: Global,
-    mine: MineToCheck,
+    mine: ListedMine,
     beside: &BesideRead,
     device: &mut C,
 ) -> Result<Parted, BoundFault>

@@ -16,7 +16,7 @@ use crate::stream_fault::StreamFault;
 use crate::stream_header::read_header;
 use crate::stream_lines::StreamLines;
 use certificate_file::{CertFault, Header};
-use closure_net::{GraphRef, Net};
+use closure_net::Net;
 use counted_devices::CountedRead;
 use ordered_group::OrderedGroup;
 use std::alloc::{AllocError, Global};
@@ -205,52 +205,11 @@ pub fn check_held<'a, R: CountedRead, G: OrderedGroup>(
     }
 }
 
-/// Checks the certificate as [`check_held`] does, over a graph and the pairs that it lists.
+/// Checks the certificate as [`check_held`] does, over a net and the pairs that it lists. The net is handed back with the
+/// accepted pit.
 ///
 /// # Errors
 /// Those of [`check_held`].
-pub fn check_graph<'a, R: CountedRead, G: OrderedGroup>(
-    stream: &mut CertStream<R>,
-    net: GraphRef<'a, G>,
-    room: &'a mut Room<G>,
-) -> Result<AcceptedPit<'a, G>, StreamFault>
-    requires count { R.failed stream.old.lines.from < 2 ^ 64 - 1 }
-    requires header { IsReadFor (length net.worths) G.name stream.old.header stream.old.fault }
-    requires room { length room.old.balances ≡ length net.worths }
-    ensures fault_again { (e : StreamFault) → stream.old.fault ≡ Some e
-        → IsErrOf result e × (stream.new ≡ stream.old) }
-    ensures done_again { stream.old.fault ≡ None → stream.old.is_done ≡ true
-        → IsErrOf result (StreamFault.Cert CertFault.Truncated)
-        × (stream.new.lines ≡ stream.old.lines) }
-    ensures checked { stream.old.fault ≡ None → stream.old.is_done ≡ false → (bytes : List ℕ)
-        × ReadsOn R.remaining stream.old.lines stream.new.lines bytes × MatchResult result
-        (λ a. (a.net ≡ net.entry)
-        × BodyProves (R.remaining stream.new.lines.from) stream.new.lines.taken G.counts net.entry
-        (stream.old.lines.held ++ bytes) a.pit)
-        (λ e. BodyFails
-        (R.remaining stream.new.lines.from) stream.new.lines.taken G.counts net.entry
-        (stream.old.lines.held ++ bytes) e) }
-    ensures ok { IfOk result (λ a. (stream.new.fault ≡ None) × (stream.new.is_done ≡ true)) }
-    ensures fault { IfErr result (λ e. stream.new.fault ≡ Some e) }
-    ensures header { stream.new.header ≡ stream.old.header }
-    ensures device { stream.old.fault ≡ None → IsErrOf result StreamFault.Device
-        → R.failed stream.new.lines.from ≡ R.failed stream.old.lines.from + 1 }
-    ensures kept { ¬ IsErrOf result StreamFault.Device
-        → R.failed stream.new.lines.from ≡ R.failed stream.old.lines.from }
-    ensures memory { stream.old.fault ≡ None → room.old.is_pit ≡ false
-        → length net.entry.worths ≤ room.old.space
-        → ¬ IsErrOf result (StreamFault.Cert CertFault.NoMemory) }
-{
-    match check_held(stream, HeldGraph::listed(net), room) {
-        Ok(accepted) => Ok(accepted),
-        Err(fault) => Err(fault),
-    }
-}
-
-/// Checks the rest of a certificate as [`check_graph`] does, for a net, which is handed back with the accepted pit.
-///
-/// # Errors
-/// Those of [`check_graph`].
 pub fn check_stream<'a, R: CountedRead, G: OrderedGroup>(
     stream: &mut CertStream<R>,
     net: &'a Net<G>,
@@ -282,7 +241,7 @@ pub fn check_stream<'a, R: CountedRead, G: OrderedGroup>(
         → length net.now.worths ≤ room.old.space
         → ¬ IsErrOf result (StreamFault.Cert CertFault.NoMemory) }
 {
-    match check_graph(stream, net.graph(), room) {
+    match check_held(stream, HeldGraph::listed(net.graph()), room) {
         Ok(accepted) => Ok(Accepted::new(net, accepted)),
         Err(fault) => Err(fault),
     }

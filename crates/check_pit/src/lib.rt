@@ -3,8 +3,8 @@
 //! Stands on `certificate_file` for the lines of a certificate, on `held_pairs` and `places` for who rests on whom
 //! without a list, and on `closure_net`, `fixed_worth`, `ordered_group` and `prec_file`. Promises upward: whatever
 //! `check` accepts is closed, and no closed set sums to more; whatever it refuses has the fault that it names, and none
-//! that comes before it; and a closed, tight pit with a flow whose sums fit is never refused. `check_graph`,
-//! `check_held` and `check_stream` read and check a certificate at once, line by line.
+//! that comes before it; and a closed, tight pit with a flow whose sums fit is never refused. `check_held`
+//! and `check_stream` read and check a certificate at once, line by line.
 //!
 //! An example: three blocks are worth 6, 5 and -10, and the first two rest on the third. By a flow in which the source
 //! gives 6 and 4 and the sink takes 10, [`check`] accepts the pit of all three, which is worth 1. Tried in
@@ -51,7 +51,7 @@ mod sums;
 
 pub use accepted::Accepted;
 pub use accepted_pit::AcceptedPit;
-pub use cert_stream::{CertStream, check_graph, check_held, check_stream};
+pub use cert_stream::{CertStream, check_held, check_stream};
 pub use certificate_file::{
     CertFault, Certificate, Header, Price, read_certificate, reading, write_certificate,
 };

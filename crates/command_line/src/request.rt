@@ -116,7 +116,7 @@ fn request_by<'a>(name: &str, matches: &ArgMatches<'a>) -> Option<Request<'a>> {
 // Why matches are no request.
 fn error_in(alloc: Global, matches: &ArgMatches<'_>) -> Error {
     let error = match matches.subcommand() {
-        Some((name, matches)) if names_rests_twice(matches) => rests_said_twice(alloc, name),
+        Some((name, matches)) if names_rests_twice(matches) => error_of_rests_twice(alloc, name),
         _ => command_missing(alloc),
     };
     match error {
@@ -130,7 +130,7 @@ fn command_missing(alloc: Global) -> Result<Error, AllocError> {
 }
 
 // What is wrong with files of a mine where two of them say what rests on what.
-fn rests_said_twice(alloc: Global, name: &str) -> Result<Error, AllocError> {
+fn error_of_rests_twice(alloc: Global, name: &str) -> Result<Error, AllocError> {
     let (made, name) = match name {
         "bound" => (bound_command(alloc), "pit bound"),
         "check" => (check_command(alloc), "pit check"),

@@ -20,7 +20,7 @@ use check_pit::{CertStream, StreamBytes};
 use closure_net::NetFault;
 use counted_devices::CountedRead;
 use engine_faults::EngineFault;
-use mine_inputs::{MineToCheck, Worths};
+use mine_inputs::{ListedMine, Worths};
 use planned_mine::{BesideRead, BoundFault, figured_of};
 use prec_file::Predecessors;
 use schedule_engines::{PlanFault, PlanRead, judge_chosen};
@@ -39,7 +39,7 @@ pub(crate) struct Compared {
 #[derive(Drop)]
 pub(crate) struct ComparedCase {
     pub(crate) alloc: Global,
-    pub(crate) mine: MineToCheck,
+    pub(crate) mine: ListedMine,
     pub(crate) read: PlanRead,
 }
 
@@ -80,7 +80,7 @@ pub(crate) fn judged_by(
 // What a schedule comes to, and what a certificate of which nothing was read tells of all schedules.
 fn compared_from<C: CountedRead>(
     alloc: Global,
-    mine: MineToCheck,
+    mine: ListedMine,
     read: PlanRead,
     stream: &mut CertStream<C>,
 ) -> Result<Compared, BoundFault>
@@ -99,7 +99,7 @@ fn compared_from<C: CountedRead>(
         → C.failed stream.new.lines.from ≡ C.failed stream.old.lines.from }
     ensures beyond { IfErr result IsBeyondTexts }
 {
-    let MineToCheck {
+    let ListedMine {
         worths,
         predecessors,
     } = mine;

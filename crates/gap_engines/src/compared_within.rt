@@ -27,7 +27,7 @@ use bound_engines::{
 use check_pit::PitFault;
 use core::mem::replace_with;
 use counted_devices::CountedRead;
-use mine_inputs::MineToCheck;
+use mine_inputs::ListedMine;
 use planned_mine::{BesideRead, BoundFault, lent_list};
 use schedule_engines::PlanRead;
 use schedule_value::Judged;
@@ -94,7 +94,7 @@ fn told_of_part<C: CountedRead>(
 fn compared_in_pit<R: Threads + Sync, C: CountedRead>(
     rt: &R,
     alloc: Global,
-    mine: MineToCheck,
+    mine: ListedMine,
     read: PlanRead,
     pit: &mut C,
     nodes: &mut C,
@@ -154,7 +154,7 @@ fn compared_in_pit<R: Threads + Sync, C: CountedRead>(
 pub(crate) fn compared_by<R: Threads + Sync, C: CountedRead>(
     rt: &R,
     alloc: Global,
-    mine: MineToCheck,
+    mine: ListedMine,
     read: PlanRead,
     certificates: &mut Certificates<C>,
 ) -> Result<ComparedBy, BoundFault>

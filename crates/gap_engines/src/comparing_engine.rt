@@ -20,7 +20,7 @@ use crate::compared_within::compared_by;
 use bound_engines::Certificates;
 use check_engines::Verdict;
 use counted_devices::{CountedRead, CountedWrite};
-use mine_inputs::{MineInputs, mine_to_check};
+use mine_inputs::{MineInputs, listed_mine};
 use planned_mine::BoundFault;
 use schedule_engines::{PlanFault, ScheduleInputs};
 use std::alloc::Global;
@@ -40,7 +40,7 @@ use std::thread::Threads;
 /// first fault. Nothing is written before the answer is known.
 ///
 /// # Errors
-/// Those of `mine_inputs::mine_to_check`, then those of the periods, without multipliers `Missing`, of the blocks that
+/// Those of `mine_inputs::listed_mine`, then those of the periods, without multipliers `Missing`, of the blocks that
 /// have the uses, and of the schedule; then those of [`bound_engine`](bound_engines::bound_engine) after its other
 /// inputs, and `Nodes` with `TooLarge` where the gap doesn't fit. `Memory` where memory is refused, `Device` where a
 /// read or a write fails; at every other fault nothing was written.
@@ -85,7 +85,7 @@ pub fn compare_schedule_engine<R: Threads + Sync, D: CountedRead, C: CountedRead
         × (C.failed certificates.new.nodes ≡ C.failed certificates.old.nodes)
         × (W.failed out.new ≡ W.failed out.old) }
 {
-    let mine = match mine_to_check(rt, alloc, inputs) {
+    let mine = match listed_mine(rt, alloc, inputs) {
         Ok(mine) => mine,
         Err(fault) => return Err(BoundFault::Plan(PlanFault::Engine(fault))),
     };

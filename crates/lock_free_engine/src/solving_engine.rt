@@ -14,7 +14,7 @@ use check_engines::Verdict;
 use closure_net::{Net, laws};
 use counted_devices::{CountedRead, CountedWrite};
 use engine_faults::EngineFault;
-use mine_inputs::{MineInputs, MineToSolve, mine_to_solve};
+use mine_inputs::{IndexedMine, MineInputs, indexed_mine};
 use ordered_group::Scaled;
 use solve_engines::Outcome;
 use solve_engines::net_answer::write_answer;
@@ -65,7 +65,7 @@ pub fn solve_lock_free_engine<
     ensures kept { ¬ IsErrOf result EngineFault.Device
         → NoneFailed inputs.old inputs.new D.failed × (W.failed out.new ≡ W.failed out.old) }
 {
-    let mine = mine_to_solve(rt, alloc, inputs, asked.factor)?;
+    let mine = indexed_mine(rt, alloc, inputs, asked.factor)?;
     mine_by_lock_free_run(rt, alloc, mine, asked.effort, gate, out)
 }
 
@@ -73,7 +73,7 @@ pub fn solve_lock_free_engine<
 fn mine_by_lock_free_run<R: Threads + Wait + Sync, T: Gate + Outcome, W: CountedWrite>(
     rt: &R,
     alloc: Global,
-    mine: MineToSolve,
+    mine: IndexedMine,
     effort: LockFreeEffort,
     gate: &T,
     out: &mut W,

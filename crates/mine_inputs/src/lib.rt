@@ -7,7 +7,7 @@
 //! - Each reader gives what its text says, or the first fault of the text, and says so of the bytes that the device
 //!   told. An input has at most 2^32 bytes.
 //! - [`held_mine`] gives the mine that its texts denote, of whichever kind, or a fault that stands in them, and none
-//!   before it does; and so do [`mine_to_check`] and [`mine_to_solve`], by a list of its pairs. Where slopes say who
+//!   before it does; and so do [`listed_mine`] and [`indexed_mine`], by a list of its pairs. Where slopes say who
 //!   rests on whom, [`held_mine`] makes no list of the pairs, if it is asked for places and a grid holds them.
 //! - A failed read is answered as `Device`, and nothing else is: the devices have then counted one failure more
 //!   together.
@@ -15,7 +15,7 @@
 //! An example: the text of values says that three blocks are worth 6, 5 and -10, and the precedence, `0 1 2` and
 //! `1 1 2`, that the first two rest on the third. [`held_mine`] reads both as `MineInputs::Listed`: its `predecessors`
 //! are a list of the two pairs, and `nanos_at` of its `worths` gives 6, 5 and -10 in billionths, whatever the factor.
-//! [`mine_to_solve`] reads prices at one factor: a block that earns 10 and costs 4 is worth 1 at 500 thousandths.
+//! [`indexed_mine`] reads prices at one factor: a block that earns 10 and costs 4 is worth 1 at 500 thousandths.
 //! Beside a precedence, settings that list slopes are refused as `Unused(slopes)`. Tried in `tests/cases`:
 //! `check/two_ore_blocks_share_one_waste_block_at_pairs`, `solve/prices_at_half` and
 //! `settings/slopes_beside_a_precedence`.
@@ -37,8 +37,8 @@ mod worths;
 pub use columns_of_prices::{PriceColumns, missing, place_beside, price_columns};
 pub use held_mines::{held_by_slopes, held_mine};
 pub use inputs::{blocks_from, held_from, predecessors_from, unread};
-pub use listed_mines::{mine_to_check, mine_to_solve};
-pub use mine_kinds::{HeldMine, MineToCheck, MineToSolve};
+pub use listed_mines::{indexed_mine, listed_mine};
+pub use mine_kinds::{HeldMine, IndexedMine, ListedMine};
 pub use mines::{MineInputs, WorthInputs};
 pub use priced_inputs::{
     priced_blocks_from, priced_settings_from, prices_from, prices_of, settings_from,

@@ -8,7 +8,7 @@ ghost use Rattle.mine_inputs.specs.Mines.{price_wanted};
 ghost use Rattle.mine_inputs.specs.ReadMines.{AreRead, IsMineRead};
 
 use crate::held_mines::held_mine;
-use crate::mine_kinds::{HeldMine, MineToCheck, MineToSolve};
+use crate::mine_kinds::{HeldMine, IndexedMine, ListedMine};
 use crate::mines::MineInputs;
 use counted_devices::CountedRead;
 use engine_faults::EngineFault;
@@ -21,11 +21,11 @@ use std::thread::Threads;
 ///
 /// # Errors
 /// Those of [`held_mine`].
-pub fn mine_to_check<R: Threads + Sync, D: CountedRead>(
+pub fn listed_mine<R: Threads + Sync, D: CountedRead>(
     rt: &R,
     alloc: Global,
     inputs: &mut MineInputs<D>,
-) -> Result<MineToCheck, EngineFault>
+) -> Result<ListedMine, EngineFault>
     requires { CanCount inputs.old D.failed }
     ensures read { (factor : ℕ)
         → ForTexts inputs.old D.remaining factor (λ texts. MatchResult result
@@ -40,7 +40,7 @@ pub fn mine_to_check<R: Threads + Sync, D: CountedRead>(
         predecessors,
     } = held_mine(rt, alloc, inputs, Holder::List)?;
     let list = into_list(alloc, predecessors)?;
-    Ok(MineToCheck {
+    Ok(ListedMine {
         worths,
         predecessors: list,
     })
@@ -49,13 +49,13 @@ pub fn mine_to_check<R: Threads + Sync, D: CountedRead>(
 /// The mine that its texts denote, at a factor where its blocks have prices.
 ///
 /// # Errors
-/// Those of [`mine_to_check`].
-pub fn mine_to_solve<R: Threads + Sync, D: CountedRead>(
+/// Those of [`listed_mine`].
+pub fn indexed_mine<R: Threads + Sync, D: CountedRead>(
     rt: &R,
     alloc: Global,
     inputs: &mut MineInputs<D>,
     factor: Factor,
-) -> Result<MineToSolve, EngineFault>
+) -> Result<IndexedMine, EngineFault>
     requires { CanCount inputs.old D.failed }
     ensures read { ForTexts inputs.old D.remaining factor (λ texts. MatchResult result
         (λ mine. AreRead texts mine.nanos.items mine.rests
@@ -66,14 +66,14 @@ pub fn mine_to_solve<R: Threads + Sync, D: CountedRead>(
         → OneFailed inputs.old inputs.new D.failed 0 0 }
     ensures kept { ¬ IsErrOf result EngineFault.Device → NoneFailed inputs.old inputs.new D.failed }
 {
-    let MineToCheck {
+    let ListedMine {
         worths,
         predecessors,
-    } = mine_to_check(rt, alloc, inputs)?;
+    } = listed_mine(rt, alloc, inputs)?;
     let rests = predecessors.into_rests(alloc)?;
     let nanos = worths.nanos_at(rt, alloc, factor)?;
     let price = worths.price_at(factor);
-    Ok(MineToSolve {
+    Ok(IndexedMine {
         nanos,
         rests,
         price,

@@ -16,9 +16,9 @@ pub struct HeldMine {
 }
 
 /// What its blocks are worth, and who rests on whom by a list alone: for `schedule`, `bound` and `solve --periods`, and
-/// for a [`MineToSolve`].
+/// for an [`IndexedMine`].
 #[derive(Drop)]
-pub struct MineToCheck {
+pub struct ListedMine {
     /// What its blocks are worth.
     pub worths: Worths,
     /// The predecessors of each block.
@@ -28,7 +28,7 @@ pub struct MineToCheck {
 /// What each block is worth at one factor, and a list that also finds the pairs by predecessor: for `replay`, and for
 /// `solve --trace` and `solve --method lock-free`.
 #[derive(Drop)]
-pub struct MineToSolve {
+pub struct IndexedMine {
     /// What each block is worth, in billionths.
     pub nanos: Vec<i128>,
     /// What rests on what.

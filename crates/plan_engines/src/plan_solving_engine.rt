@@ -22,7 +22,7 @@ use check_engines::judgement_line::write_judgement;
 use check_engines::{Judgement, Verdict};
 use check_pit::PitFault;
 use counted_devices::{CountedRead, CountedWrite};
-use mine_inputs::{MineInputs, mine_to_check};
+use mine_inputs::{MineInputs, listed_mine};
 use option_words::Effort;
 use planned_mine::{BoundFault, BoundInputs, beside_from};
 use pseudoflow::Progress;
@@ -107,7 +107,7 @@ fn solve_found<R: Threads + Wait + Sync, T: Gate + Progress + Outcome, W: Counte
 /// which is read up to its first fault. Nothing is written before the answer is known.
 ///
 /// # Errors
-/// Those of `mine_inputs::mine_to_check`, then those of the periods, without multipliers `Missing`, and of the blocks
+/// Those of `mine_inputs::listed_mine`, then those of the periods, without multipliers `Missing`, and of the blocks
 /// that have the uses; where a certificate is given, those of `check_engines::check_engine` after its inputs,
 /// `WrongPrice` also where it is of another price; `Periods` with `TooLarge`; `Nodes`. `Memory` where memory is
 /// refused, `Thread` where a worker can't be started, `Stranger` where the board that the workers shared comes back as
@@ -156,7 +156,7 @@ pub fn solve_plan_engine<
         × (pit_failures inputs.new.pit D.failed ≡ pit_failures inputs.old.pit D.failed)
         × (W.failed out.new ≡ W.failed out.old) }
 {
-    let mine = match mine_to_check(rt, alloc, &mut inputs.mine) {
+    let mine = match listed_mine(rt, alloc, &mut inputs.mine) {
         Ok(mine) => mine,
         Err(fault) => return Err(BoundFault::Plan(PlanFault::Engine(fault))),
     };

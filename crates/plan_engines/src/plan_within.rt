@@ -14,7 +14,7 @@ use certificate_file::Price;
 use check_pit::PitFault;
 use counted_devices::CountedRead;
 use engine_faults::CertificateProblem;
-use mine_inputs::MineToCheck;
+use mine_inputs::ListedMine;
 use planned_mine::{BesideRead, BoundFault, Figured, figured_of};
 use shells::Factor;
 use std::alloc::Global;
@@ -32,7 +32,7 @@ pub(crate) enum ToSolve {
 // All of a mine and its periods, where its blocks have prices at this factor.
 fn whole_plan(
     alloc: Global,
-    mine: MineToCheck,
+    mine: ListedMine,
     beside: BesideRead,
     factor: Factor,
 ) -> Result<ToSolve, BoundFault>
@@ -42,7 +42,7 @@ fn whole_plan(
     ensures no_device { ¬ IsErrOf result (bound.Plan (plan.Engine engine.Device)) }
     ensures beyond { IfErr result IsBeyondTexts }
 {
-    let MineToCheck {
+    let ListedMine {
         worths,
         predecessors,
     } = mine;
@@ -57,7 +57,7 @@ fn whole_plan(
 fn part_plan<R: Threads + Sync, D: CountedRead>(
     rt: &R,
     alloc: Global,
-    mine: MineToCheck,
+    mine: ListedMine,
     beside: &BesideRead,
     factor: Factor,
     pit: &mut D,
@@ -95,7 +95,7 @@ fn part_plan<R: Threads + Sync, D: CountedRead>(
 pub(crate) fn plan_to_solve<R: Threads + Sync, D: CountedRead>(
     rt: &R,
     alloc: Global,
-    mine: MineToCheck,
+    mine: ListedMine,
     beside: BesideRead,
     factor: Factor,
     pit: &mut Option<D>,

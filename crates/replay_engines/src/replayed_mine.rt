@@ -17,7 +17,7 @@ use closure_net::{Net, laws};
 use counted_devices::CountedWrite;
 use engine_faults::EngineFault;
 use machine_law::laws as machine_laws;
-use mine_inputs::MineToSolve;
+use mine_inputs::IndexedMine;
 use ordered_group::{Group, OrderedGroup, Scaled, Worth, WorthSize};
 use std::alloc::{AllocError, Global};
 
@@ -28,7 +28,7 @@ use std::alloc::{AllocError, Global};
 /// `Device` where a write fails: the writer then has a prefix.
 pub fn replay_mine<W: CountedWrite>(
     alloc: Global,
-    mine: MineToSolve,
+    mine: IndexedMine,
     group: Group,
     events: &[Event],
     out: &mut W,
@@ -49,7 +49,7 @@ pub fn replay_mine<W: CountedWrite>(
 // What comes of the steps.
 fn outcome_of(
     alloc: Global,
-    mine: MineToSolve,
+    mine: IndexedMine,
     group: Group,
     events: &[Event],
 ) -> Result<Outcome, EngineFault>
@@ -71,7 +71,7 @@ fn outcome_of(
 // What the events come to over the mine, in amounts of the group G.
 fn outcome_by<G: OrderedGroup>(
     alloc: Global,
-    mine: MineToSolve,
+    mine: IndexedMine,
     events: &[Event],
 ) -> Result<Outcome, EngineFault>
     ensures comes { (texts : MineTexts) → AreRead texts mine.nanos.items mine.rests

@@ -10,7 +10,7 @@ use crate::trace_inputs::events_from;
 use check_engines::Verdict;
 use counted_devices::{CountedRead, CountedWrite};
 use engine_faults::EngineFault;
-use mine_inputs::{MineInputs, mine_to_solve};
+use mine_inputs::{MineInputs, indexed_mine};
 use std::alloc::Global;
 use std::thread::Threads;
 
@@ -29,7 +29,7 @@ use std::thread::Threads;
 /// known.
 ///
 /// # Errors
-/// Those of `mine_inputs::mine_to_solve`, then `Trace`, and `Model` where the net's amounts don't fit.
+/// Those of `mine_inputs::indexed_mine`, then `Trace`, and `Model` where the net's amounts don't fit.
 /// `Memory` where memory is refused, `Device` where a read or a write fails: the writer has then received a prefix of
 /// the answer, and at every other fault nothing.
 ///
@@ -58,7 +58,7 @@ pub fn replay_engine<R: Threads + Sync, D: CountedRead, E: CountedRead, W: Count
     ensures kept { ¬ IsErrOf result EngineFault.Device → NoneFailed inputs.old inputs.new D.failed
         × (E.failed trace.new ≡ E.failed trace.old) × (W.failed out.new ≡ W.failed out.old) }
 {
-    let mine = mine_to_solve(rt, alloc, inputs, asked.factor)?;
+    let mine = indexed_mine(rt, alloc, inputs, asked.factor)?;
     let events = events_from(alloc, trace)?;
     let group = asked.group;
     replay_mine(alloc, mine, group, events.as_slice(), out)

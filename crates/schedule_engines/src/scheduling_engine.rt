@@ -14,7 +14,7 @@ use crate::schedule_judge::judge_planned;
 use closure_net::NetFault;
 use counted_devices::{CountedRead, CountedWrite};
 use engine_faults::EngineFault;
-use mine_inputs::{MineInputs, MineToCheck, mine_to_check};
+use mine_inputs::{ListedMine, MineInputs, listed_mine};
 use shells::Factor;
 use std::alloc::Global;
 use std::thread::Threads;
@@ -33,7 +33,7 @@ use std::thread::Threads;
 /// known.
 ///
 /// # Errors
-/// Those of `mine_inputs::mine_to_check`, then those of the periods, of the blocks that have the uses, and of the
+/// Those of `mine_inputs::listed_mine`, then those of the periods, of the blocks that have the uses, and of the
 /// schedule. `Memory` where memory is refused, `Device` where a read or a write fails: the writer has then received a
 /// prefix of the answer, and at every other fault nothing.
 ///
@@ -65,10 +65,10 @@ pub fn schedule_engine<R: Threads + Sync, D: CountedRead, W: CountedWrite>(
         × (plan_failures beside.new D.failed ≡ plan_failures beside.old D.failed)
         × (W.failed out.new ≡ W.failed out.old) }
 {
-    let MineToCheck {
+    let ListedMine {
         worths,
         predecessors,
-    } = mine_to_check(rt, alloc, inputs)?;
+    } = listed_mine(rt, alloc, inputs)?;
     let read = plan_from(alloc, beside, predecessors.len(), worths.way_count())?;
     // the texts of a mine say of as many blocks what they are worth as which blocks they rest on
     if worths.len() != predecessors.len() {

@@ -6,8 +6,8 @@ use Rattle.schedules.specs.Production.{Production, IsFeasible, npv_of}
 use Rattle.schedules.specs.Expanded.{expanded, price_of_capacities, sum_below}
 
 -- A production whose block b may be treated in so many ways, as in a mill or as waste: what it is worth in period t
--- where it goes way d, and what it uses of resource r then. A block that lags behind another is dug in a later period,
--- as where few benches a year can be dug.
+-- where it goes way d, and what it uses of resource r then. A block that lags behind another is dug in a later period.
+-- What `pit bound` proves is of productions in which no block lags: its waits are pairs of blocks and a number of periods.
 pub record Treated : Type 0 where
   pub mine : Mine
   pub periods : ℕ

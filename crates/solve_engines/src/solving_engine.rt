@@ -20,7 +20,7 @@ use closure_net::{Net, laws};
 use counted_devices::{CountedRead, CountedWrite};
 use engine_faults::EngineFault;
 use held_pairs::{HeldPairs, Holder, into_list};
-use mine_inputs::{HeldMine, MineInputs, MineToSolve, held_mine};
+use mine_inputs::{HeldMine, IndexedMine, MineInputs, held_mine};
 use option_words::{Effort, Method};
 use ordered_group::{Group, OrderedGroup, Scaled, Worth, WorthSize};
 use pseudoflow::Progress;
@@ -205,7 +205,7 @@ where
     }
     let list = into_list(alloc, pairs)?;
     let rests = list.into_rests(alloc)?;
-    let mine = MineToSolve {
+    let mine = IndexedMine {
         nanos,
         rests,
         price,
@@ -222,7 +222,7 @@ fn solve_by<
 >(
     rt: &R,
     alloc: Global,
-    mine: MineToSolve,
+    mine: IndexedMine,
     effort: Effort,
     gate: &T,
     out: &mut W,

@@ -16,7 +16,7 @@ use check_engines::Verdict;
 use closure_net::{Net, laws};
 use counted_devices::{CountedRead, CountedWrite};
 use engine_faults::EngineFault;
-use mine_inputs::{MineInputs, MineToSolve, mine_to_solve};
+use mine_inputs::{IndexedMine, MineInputs, indexed_mine};
 use ordered_group::{Group, OrderedGroup, Scaled, Worth, WorthSize};
 use solve_engines::Outcome;
 use std::alloc::Global;
@@ -76,7 +76,7 @@ pub fn solve_traced_engine<
         × (V.failed outputs.new.trace ≡ V.failed outputs.old.trace)
         × (W.failed outputs.new.out ≡ W.failed outputs.old.out) }
 {
-    let mine = mine_to_solve(rt, alloc, inputs, asked.factor)?;
+    let mine = indexed_mine(rt, alloc, inputs, asked.factor)?;
     trace_mine(rt, alloc, mine, asked, gate, outputs)
 }
 
@@ -84,7 +84,7 @@ pub fn solve_traced_engine<
 fn trace_mine<R: Threads + Wait + Sync, T: Gate + Outcome, V: CountedWrite, W: CountedWrite>(
     rt: &R,
     alloc: Global,
-    mine: MineToSolve,
+    mine: IndexedMine,
     asked: TracedAsked,
     gate: &T,
     outputs: &mut TracedOutputs<V, W>,
@@ -125,7 +125,7 @@ fn trace_by<
 >(
     rt: &R,
     alloc: Global,
-    mine: MineToSolve,
+    mine: IndexedMine,
     asked: TracedAsked,
     gate: &T,
     outputs: &mut TracedOutputs<V, W>,

@@ -29,7 +29,7 @@ returns-clause-answer g c =
 
 pub returns-in_err-mine-clause-device : goal.returns-in_err-mine-clause-device
 returns-in_err-mine-clause-device g c = λ d.
-    mine_once c.args.inputs.now c.mine_to_solve.new.inputs g.D.CountedRead.failed _ _
+    mine_once c.args.inputs.now c.indexed_mine.new.inputs g.D.CountedRead.failed _ _
     (raised c.from_residual.result c.in_err-mine.field-0.0 c.from_residual.ensures.1 c.in_err-mine.ensures.device
     d) refl
 
@@ -39,7 +39,7 @@ returns-in_err-mine-clause-kept g c = λ n.
 
 pub returns-clause-device : goal.returns-clause-device
 returns-clause-device g c = λ d.
-    other_once c.args.inputs.now c.mine_to_solve.new.inputs g.D.CountedRead.failed
+    other_once c.args.inputs.now c.indexed_mine.new.inputs g.D.CountedRead.failed
     (g.W.CountedWrite.failed c.args.out.now) (g.W.CountedWrite.failed c.mine_by_lock_free_run.new.out)
     (went c.in_ok-mine.mine c.in_ok-mine.ensures.kept) (c.mine_by_lock_free_run.ensures.device.0 d)
 

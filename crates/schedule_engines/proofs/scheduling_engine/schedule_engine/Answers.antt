@@ -60,6 +60,6 @@ returns-clause-device g c = λ d.
     let before = g.W.CountedWrite.failed c.args.out.now in
     let after = g.W.CountedWrite.failed c.judge_planned.new.out in
     let read : new ≡ old = c.in_ok-read.ensures.kept (λ e. cc) in
-    other_once c.args.inputs.now c.mine_to_check.new.inputs g.D.CountedRead.failed (old + before) (new + after)
+    other_once c.args.inputs.now c.listed_mine.new.inputs g.D.CountedRead.failed (old + before) (new + after)
     (went c.in_ok-worths.field-0 c.in_ok-worths.ensures.kept)
     (second_of_two old before new after read (c.judge_planned.ensures.device.0 d))

@@ -31,7 +31,7 @@ returns-clause-answer g c =
 
 pub returns-in_err-mine-clause-device : goal.returns-in_err-mine-clause-device
 returns-in_err-mine-clause-device g c = λ d.
-    mine_once c.args.inputs.now c.mine_to_solve.new.inputs g.D.CountedRead.failed _ _
+    mine_once c.args.inputs.now c.indexed_mine.new.inputs g.D.CountedRead.failed _ _
     (raised c.from_residual.result c.in_err-mine.field-0.0 c.from_residual.ensures.1 c.in_err-mine.ensures.device
     d) refl
 
@@ -44,7 +44,7 @@ returns-in_err-mine-clause-kept g c = λ n. (
 
 pub returns-clause-device : goal.returns-clause-device
 returns-clause-device g c = λ d.
-    other_once c.args.inputs.now c.mine_to_solve.new.inputs g.D.CountedRead.failed
+    other_once c.args.inputs.now c.indexed_mine.new.inputs g.D.CountedRead.failed
     (g.V.CountedWrite.failed c.args.outputs.now.trace + g.W.CountedWrite.failed c.args.outputs.now.out)
     (g.V.CountedWrite.failed c.trace_mine.new.outputs.trace + g.W.CountedWrite.failed
     c.trace_mine.new.outputs.out) (went c.in_ok-mine.mine c.in_ok-mine.ensures.kept) (c.trace_mine.ensures.device d)

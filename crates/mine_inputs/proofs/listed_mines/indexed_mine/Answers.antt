@@ -1,7 +1,7 @@
 use Rattle.fixed_worth.proofs.Common.{sym, subst, err_from_is_err_and}
 use Rattle.mine_inputs.specs.Prelude.{ForTexts, IsMineRead}
 use Rattle.mine_inputs.proofs.MinesRead.{memory_refused, mine_priced}
-use Rattle.mine_inputs.proofs.listed_mines.mine_to_solve.Goals as goal
+use Rattle.mine_inputs.proofs.listed_mines.indexed_mine.Goals as goal
 
 pub returns-in_err-rests-clause-read : goal.returns-in_err-rests-clause-read
 returns-in_err-rests-clause-read g c =
