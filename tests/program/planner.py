@@ -1,5 +1,5 @@
 """The tests of pitplan, the planner's side in Python: python/tests, by Debian's own Python and packages, its Debian package in a
-fresh Debian, and damaged studies."""
+fresh Debian, and damaged studies, files and requests."""
 import os
 import re
 import subprocess
@@ -129,8 +129,22 @@ def large_table(top, pit):
     return int(ran.returncode == 0), int(ran.returncode != 0)
 
 
-def fuzz(top, minutes, seed):
-    """Throws damaged studies at pitplan for so many minutes: each is answered by a result or a message, never by a traceback."""
-    words = [PYTHON, "tests/support/fuzz_studies.py", str(10**9), str(60 * minutes), str(seed)]
-    well = subprocess.run(words, cwd=top / "python", stdin=subprocess.DEVNULL).returncode == 0
-    return int(well), int(not well)
+# what is thrown at pitplan, by two processes: kinds of python/tests/support/fuzzing.py, and the part of
+# the time that each has
+LANES = ([("studies", 1)], [("kept", 0.5), ("desk", 0.5)])
+
+
+def fuzz(top, pit, minutes, seed):
+    """Throws damaged studies, kept files and requests at pitplan for so many minutes: each is answered by a result or a
+    message, never by a traceback. Gives how many of the kinds were answered throughout, and how many weren't."""
+
+    def tried(kind, share):
+        words = [PYTHON, "tests/support/fuzzing.py", kind, str(60 * minutes * share), str(seed)]
+        around = {**os.environ, "PIT": str(pit)}
+        ran = subprocess.run(words, cwd=top / "python", stdin=subprocess.DEVNULL, env=around)
+        return ran.returncode == 0
+
+    with ThreadPoolExecutor(len(LANES)) as lanes:
+        done = lanes.map(lambda lane: [tried(kind, share) for kind, share in lane], LANES)
+        well = [each for lane in done for each in lane]
+    return sum(well), len(well) - sum(well)

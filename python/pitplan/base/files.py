@@ -62,6 +62,12 @@ def write_json(path: Path, content: Any) -> None:
         part.write_text(json.dumps(content, indent=1, ensure_ascii=False) + "\n", "utf-8")
 
 
+def write_bytes(path: Path, content: bytes) -> None:
+    """Writes a file of bytes likewise."""
+    with whole_file(path) as part:
+        part.write_bytes(content)
+
+
 def put_aside(path: Path) -> Path:
     """Keeps what a file has beside it, under a name that nothing has yet, as study.toml.before or
     study.toml.before-2, and gives the copy's path; one that has the same already is enough.

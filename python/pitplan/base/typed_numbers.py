@@ -5,6 +5,8 @@ import re
 from dataclasses import dataclass
 from typing import Any, Union
 
+from .errors import PlanError
+
 _GROUPS = re.compile(
     r"([+-]?\d{1,3})(?P<group>[,.'’ \u00a0\u2009\u202f])(\d{3})((?:(?P=group)\d{3})*)"
     r"(?:(?P<point>(?!(?P=group))[.,])(\d+))?"
@@ -72,3 +74,14 @@ def as_number(value: Any) -> Any:
     """
     found = typed_number(value) if isinstance(value, str) else None
     return found.value if found and found.other is None else value
+
+
+def count_of(text: str, what: str) -> int:
+    """A whole number of at most 15 digits, of no sign and no blank. Raises PlanError where it is none.
+
+    >>> count_of("0017", "the row")
+    17
+    """
+    if not re.fullmatch(r"\d{1,15}", text, re.ASCII):
+        raise PlanError(f"{what} is {text[:80]!r}, and has to be a whole number")
+    return int(text)

@@ -20,9 +20,9 @@ from starlette.responses import FileResponse, JSONResponse, Response
 from starlette.routing import Route
 
 from ..base import events
-from ..base.files import put_aside, whole_file, write_json
+from ..base.files import put_aside, whole_file, write_bytes, write_json
 from ..base.study_lines import lines_of
-from ..base.typed_numbers import as_number
+from ..base.typed_numbers import as_number, count_of
 from ..study import study_lock
 from ..table.study_keys import KEYS, LISTS, Key
 from . import runs, toml_text
@@ -112,7 +112,7 @@ class Desk:
 
         async def answer(request: Request) -> Any:
             study = self.readable(request)
-            return await worker(do, study, *(request.query_params[word] for word in words))
+            return await worker(do, study, *(request.query_params.get(word, "") for word in words))
 
         return answer
 
@@ -165,12 +165,13 @@ class Desk:
             text = (self.folder.study(name) / "study.toml").read_bytes()
             names = (f"{name}-{n}" for n in itertools.count(2))
             name = next(it for it in names if not self.folder.place(it).exists())
-            _write(self.folder.new_study(name) / "study.toml", text)
+            write_bytes(self.folder.new_study(name) / "study.toml", text)
             return {"study": name}
         table = str(asked.get("table", ""))
         name = str(asked.get("name") or re.sub(r"(?i)(\.csv)?(\.gz)?$", "", table))
         study = self.folder.new_study(name)
-        columns = {str(key): str(value) for key, value in dict(asked.get("columns", {})).items()}
+        said = asked.get("columns")
+        columns = {str(key): str(it) for key, it in (said if isinstance(said, dict) else {}).items()}
         encoding = str(asked.get("encoding") or "") or None
         return await self.heavy("begin", study, self.folder.file(table, TABLES), columns, encoding)
 
@@ -216,8 +217,8 @@ class Desk:
                 new = _text_of(asked, study)
                 kept = put_aside(path).name if asked.get("keeps") else None
             else:
-                new = _changed(before, asked["changes"], study)
-            _write(path, new)
+                new = _changed(before, asked.get("changes"), study)
+            write_bytes(path, new)
             with suppress(OSError):  # who it was may be lost on a full disk, and no more
                 write_json(study / HOME / _CHANGED, {"etag": etag(new), "who": _who(asked)})
         return {**await self.whole(study), "kept": kept}
@@ -248,7 +249,7 @@ class Desk:
         """A route that has a function of a run answer."""
 
         async def answer(request: Request) -> _Json:
-            return do(_numbered(self.named(request), int(request.path_params["number"])), request)
+            return do(_numbered(self.named(request), request.path_params["number"]), request)
 
         return answer
 
@@ -291,7 +292,7 @@ def _text_of(body: _Json, study: Path) -> bytes:
     """The text that is asked for: that of a run of before, or one that is told."""
     if "text" in body:
         return str(body["text"]).encode()
-    return Path(_numbered(study, int(body["run"]))["folder"], "study.toml").read_bytes()
+    return Path(_numbered(study, body.get("run"))["folder"], "study.toml").read_bytes()
 
 
 def _key_of(section: Any, *rest: Any) -> Key | None:
@@ -330,18 +331,12 @@ def _stale(what: str, study: Path) -> Refused:
     return Refused(409, said, "look at what stands there now, and change it again", stale=True)
 
 
-def _write(path: Path, text: bytes) -> None:
-    """A file of bytes, there whole or not at all."""
-    with whole_file(path) as part:
-        part.write_bytes(text)
-
-
-def _numbered(study: Path, number: int) -> _Json:
+def _numbered(study: Path, number: Any) -> _Json:
     """A run of a study."""
     for run in runs.of(study):
-        if run["number"] == number:
+        if str(run["number"]) == str(number):
             return run
-    raise Refused(404, f"there is no run {number}")
+    raise Refused(404, f"there is no run {str(number)[:80]}")
 
 
 def _shown(run: _Json) -> _Json:
@@ -356,7 +351,7 @@ def _shown(run: _Json) -> _Json:
 
 def _run_from(run: _Json, request: Request) -> _Json:
     """A run, and what it has done since a place."""
-    place = int(request.query_params.get("from", 0))
+    place = count_of(request.query_params.get("from", "0"), "from")
     found, upto = events.read_on(run["folder"] / "events.jsonl", place, _MOST_BYTES)
     return {**_shown(run), "events": found, "upto": upto}
 
@@ -370,7 +365,9 @@ async def _json_in(request: Request) -> _Json:
         body += piece
         if len(body) > _MOST_BYTES:
             raise Refused(413, f"the desk takes at most {_MOST_BYTES:,} bytes here")
-    found = json.loads(body)
+    found = None
+    with suppress(ValueError):
+        found = json.loads(body)
     if not isinstance(found, dict):
         raise Refused(400, "the desk takes a table of JSON here")
     return found
@@ -381,6 +378,8 @@ def _answering(do: _Answer) -> _Answer:
 
     async def answer(request: Request) -> Response:
         try:
+            if "\0" in request.scope["path"]:
+                raise Refused(404, "no file has a byte 0 in its name")
             found = await do(request)
             if isinstance(found, bytes):
                 return Response(found, media_type="image/png")

@@ -20,6 +20,8 @@ from .routes import Desk
 
 _TOKEN = "PITPLAN_DESK_TOKEN"  # in the environment: the token, where a program that starts the desk has to know it
 _GRACE = 5.0  # seconds that what is being answered may take once the desk is ended
+# what was sent and isn't HTTP is answered so, and isn't told here: uvicorn warns of it by a traceback
+SERVED: dict[str, Any] = {"log_level": "error", "access_log": False, "server_header": False}
 _HERE = ("localhost", "127.0.0.1", "[::1]")
 _TOLD = """pitplan desk over {folder}. Open
 
@@ -64,9 +66,8 @@ def serve(
     print(_TOLD.format(folder=desk.folder.root, address=address, token=token), flush=True)
     desk.heavy.begin()
     desk.quick.begin()
-    config = uvicorn.Config(app, log_level="warning", access_log=False, server_header=False)
     try:
-        _Server(config).run(sockets=[listens])
+        _Server(uvicorn.Config(app, **SERVED)).run(sockets=[listens])
     finally:
         desk.end()
 

@@ -285,4 +285,4 @@ def _png(figure: Any) -> bytes:
 def cells(study: Path, row: str) -> _Json:
     """The header and the rows about one: what an error names."""
     table, model = _table_of(study)
-    return {"rows": rows_about(table, int(row), model.get("encoding") or "utf-8-sig", _WIDEST)}
+    return {"rows": rows_about(table, row, model.get("encoding") or "utf-8-sig", _WIDEST)}

@@ -24,6 +24,7 @@ import pandas as pd
 from ..base.arrays import Floats
 from ..base.errors import MOST_CELLS, Cell, PlanError, Remedy
 from ..base.machine import free_memory
+from ..base.typed_numbers import count_of
 from ..base.within import is_outside, refuse_outside
 from .marks import are_limits
 
@@ -415,13 +416,14 @@ def _tell_return(text: IO[str], path: Path, separator: str) -> None:
             ) from None
 
 
-def rows_about(path: Path, row: int, encoding: str, most: int) -> list[tuple[int, list[str]]]:
-    """The header of a table and the rows about one, as a spreadsheet counts them, each with at most
-    so many cells."""
-    dialect, found = dialect_of(path, encoding), []
+def rows_about(path: Path, row: str, encoding: str, most: int) -> list[tuple[int, list[str]]]:
+    """The header of a table and the rows about one, by its number as a spreadsheet counts them, each
+    with at most so many cells. Raises PlanError where that is no number."""
+    middle, found = count_of(row, "the row"), []
+    dialect = dialect_of(path, encoding)
     with open_table(path) as file:
-        for number, line in zip(range(1, row + 2), file):
-            if number == 1 or number >= row - 1:
+        for number, line in zip(range(1, middle + 2), file):
+            if number == 1 or number >= middle - 1:
                 text = line.decode(dialect.encoding, "replace").rstrip("\r\n")
                 found.append((number, _cells_of(text, dialect.separator)[:most]))
     return found

@@ -1,11 +1,8 @@
-"""Whatever a browser sends, or anybody else who has the token: each answer is in words, none is an
-error of the server, and study.toml is TOML after each change of its keys."""
-import json
+"""What is asked of the desk wrongly is answered in words, and what it finds oddly doesn't stop it.
+`test_fuzz.py` sends it whatever anybody may send."""
 import os
-import random
 import shutil
 import threading
-import tomllib
 from pathlib import Path
 
 import pytest
@@ -14,68 +11,15 @@ pytest.importorskip("starlette")
 from starlette.applications import Starlette
 from starlette.testclient import TestClient
 
+from fuzz_desk import Here
 from pitplan.desk import runs, worker
 from pitplan.desk.folder import Folder, refused
 from pitplan.desk.guard import Guard
 from pitplan.desk.routes import Desk
-from pitplan.table.study_keys import KEYS, LISTS
 from processes import TOP
 from served import pitplan
 
 ORIGIN = "http://desk"
-MANY = 25 * int(os.environ.get("EXAMPLES", "12"))  # requests of each seed
-JUNK = (
-    None,
-    0,
-    1,
-    -1,
-    2.5,
-    1e300,
-    10**40,
-    10**400,
-    True,
-    "",
-    "x",
-    "9,250",
-    "0,9",
-    "CU",
-    "CU +",
-)
-JUNK += ("SECTOR", "\ud800", "\0", "é", "'\"", "\n\n[x]", "# x", "2024-01-01", [], {}, [[]], [1])
-STEPS = ("economics", "slopes", "price", "NORTH", "from", "columns", "x", "mill", 0, 1, 9, "", '"')
-NAMES = ("s", "hill.csv", "t.csv", "d.dxf", "d.txt", "..", "a/b", "é", "x" * 300, "x" * 5000, "-x")
-NAMES += ("%00", "%ff", "s%2f", "%ed%a0%80", "out/x", "log/", "study.toml", "bundle-1.zip")
-ASKED = ("", "/pulse", "/look", "/check", "/rose", "/ground?what=CU", "/ground", "/cells?row=3")
-ASKED += ("/cells?row=x", "/cells?row=-1", "/cells?row=" + "9" * 30, "/runs/1?from=-5", "/runs/x")
-ASKED += ("/runs/1?from=" + "9" * 30, "/runs/" + "9" * 5000, "/rose.png")
-WORDS = (
-    "factors",
-    "mining_width",
-    "gap",
-    "design",
-    "as",
-    "factor",
-    "changes",
-    "cut",
-    "at",
-    "kinds",
-)
-BODIES = (b"0\nSECTION\n", b"x,y,z\n1,2,3\n", b"id\n1\n", b"a;b\n1,5;2\n", b"\0\xff", b"")
-
-
-class Here:
-    """A worker that does all in this process."""
-
-    def __init__(self, root):
-        self.root = root
-
-    async def __call__(self, do, *words):
-        near = [it.relative_to(self.root) if isinstance(it, Path) else it for it in words]
-        return worker.answered(do, *near)
-
-    def end(self):
-        pass
-
 
 @pytest.fixture
 def study(tmp_path, monkeypatch):
@@ -100,89 +44,36 @@ def client(study):
     return found
 
 
-def value(draw, depth=0):
-    kind = draw.random()
-    if depth > 2 or kind < 0.6:
-        return draw.choice(JUNK)
-    if kind < 0.8:
-        return [value(draw, depth + 1) for _ in range(draw.randrange(4))]
-    names = ("name", "cost", "rate", "from", "to", "step", "rocks", "grade", "copper", "tonnes")
-    return {draw.choice(names): value(draw, depth + 1) for _ in range(draw.randrange(4))}
+@pytest.mark.parametrize(
+    "method, path, sent, status, words",
+    [
+        ("GET", "/api/studies/s/runs/x", None, 404, "there is no run x"),
+        ("DELETE", "/api/studies/s/runs/-1", None, 404, "there is no run -1"),
+        ("GET", "/api/studies/s/runs/" + "9" * 5000, None, 404, "there is no run 9"),
+        ("GET", "/files/s/out/%00", None, 404, "a byte 0"),
+        ("GET", "/manual/%00", None, 404, "a byte 0"),
+        ("PATCH", "/api/studies/s", b"{}", 422, "can't be changed so"),
+        ("PATCH", "/api/studies/s", b'{"changes": [', 400, "a table of JSON"),
+        ("PATCH", "/api/studies/s", b'{"changes": "\xff"}', 400, "a table of JSON"),
+        ("PATCH", "/api/studies/s", b"9" * 5000, 400, "a table of JSON"),
+        ("POST", "/api/studies", b'{"table": "hill", "columns": "x"}', 415, "can't be taken"),
+    ],
+)
+def test_what_is_asked_wrongly_is_told_in_words_and_not_on_the_terminal(
+    client, capsys, method, path, sent, status, words
+):
+    kind = {"content-type": "application/json"}
+    answer = client.request(method, path, content=sent, headers=kind)
+    assert answer.status_code == status, answer.text
+    assert words in answer.json()["errors"][0]["said"]
+    assert capsys.readouterr().err == ""
 
 
-def process(draw, name):
-    """A way to treat a block; often a wrong one."""
-    more = {"rate": draw.choice((1e6, "1e6", 0, -1)), "rocks": draw.choice((["OXI"], [], "OXI"))}
-    kept = {key: it for key, it in more.items() if draw.random() < 0.5}
-    return {"name": f"p{name}", "cost": draw.choice((4.0, 1, "4,5", "x")), **kept}
-
-
-def change(draw):
-    """A change of a key, or of something within it."""
-    key = draw.choice(KEYS)
-    path = [key.section, key.name]
-    if key.section in LISTS:
-        path = ["economics", key.section, draw.choice((0, 1, 2, "copper", "p0")), key.name]
-    wanted = value(draw) if draw.random() < 0.7 else key.form.get("start", key.default)
-    if draw.random() < 0.15:
-        path, wanted = ["shells", "mill_rate"], draw.choice((1e6, None, "1e6"))
-    elif draw.random() < 0.3:
-        at = draw.choice((None, 0, 1, 2, 3))
-        path = ["economics", "processes"] + [at] * (at is not None)
-        wanted = [process(draw, 0)] if at is None else process(draw, at)
-    path += [draw.choice(STEPS) for _ in range(draw.choice((0, 0, 0, 1)))]
-    found = {"path": path, "value": wanted, "was": value(draw)}
-    if draw.random() < 0.9:
-        del found["was"]
-    return found if draw.random() < 0.95 else draw.choice((found["path"], {"path": []}, None))
-
-
-def request(draw):
-    """A method, a path, and what is sent."""
-    kind, name = draw.random(), draw.choice(NAMES)
-    if kind < 0.45:
-        changes = [change(draw) for _ in range(draw.choice((1, 1, 2, 3)))]
-        return "PATCH", "/api/studies/s", {"changes": changes}
-    if kind < 0.5:
-        return "PATCH", "/api/studies/s", {draw.choice(("run", "etag", "changes")): value(draw)}
-    if kind < 0.57:
-        words = {"copy", "table", "columns", "name", "encoding"}
-        asked = {word: draw.choice((name, value(draw))) for word in words if draw.random() < 0.5}
-        return "POST", "/api/studies", asked
-    if kind < 0.67:
-        what = draw.choice(("build", "phases", "compare", "vary", "plot", "export", "\ud800", []))
-        asked = {word: value(draw) for word in WORDS if draw.random() < 0.5}
-        return (
-            "POST",
-            f"/api/studies/s/{draw.choice(('commands', 'runs'))}",
-            {"what": what, **asked},
-        )
-    if kind < 0.75:
-        where = draw.choice(("/api/tables/", "/api/studies/s/designs/"))
-        return "PUT", where + name + draw.choice(("", "?over=1")), draw.choice(BODIES)
-    if kind < 0.85:
-        return "GET", draw.choice(("/files/s/", "/manual/", "/", "/api/studies/")) + name, None
-    return draw.choice(("GET", "GET", "DELETE")), "/api/studies/s" + draw.choice(ASKED), None
-
-
-@pytest.mark.parametrize("seed", range(2))
-def test_no_request_is_left_without_an_answer(client, study, seed):
-    draw, first, statuses = random.Random(seed), (study / "study.toml").read_text(), set()
-    for _ in range(MANY):
-        method, path, body = request(draw)
-        is_json = body is not None and not isinstance(body, bytes)
-        answer = client.request(
-            method,
-            path,
-            content=json.dumps(body).encode() if is_json else body,
-            headers={"content-type": "application/json"} if is_json else None,
-        )
-        assert answer.status_code < 500, (method, path[:90], body, answer.text)
-        statuses.add((method, answer.status_code))
-        tomllib.loads((study / "study.toml").read_text())
-        if draw.random() < 0.05:
-            (study / "study.toml").write_text(first)
-    assert {("PATCH", 200), ("PATCH", 422), ("POST", 422), ("PUT", 200), ("GET", 200)} <= statuses
+@pytest.mark.parametrize("row", ["x", "-1", "9" * 5000, "\u0663", ""])
+def test_a_row_that_is_none_is_told_in_words(client, capsys, row):
+    answer = client.get("/api/studies/s/cells", params={"row": row}).json()
+    assert "has to be a whole number" in answer["errors"][0]["said"]
+    assert capsys.readouterr().err == ""
 
 
 def test_what_nobody_has_foreseen_is_told_in_words_and_where_it_came_from(capsys):

@@ -1,32 +1,20 @@
-#!/usr/bin/python3
-"""Throws damaged studies at pitplan: each is answered by a result or by one message, never by a
-traceback or a library's warning.
-
-    python3 python/tests/fuzz_studies.py [SAMPLES [SECONDS [SEED]]]
+"""Damaged studies, for `fuzzing`.
 
 A sample is a study.toml and a table that were sound, with one to four changes: keys, values and
 sections that are others, cells and lines that are gone, doubled or others, bytes that are no text.
-Each is read and priced, and the slopes of one of 100 are searched, in this process; `pit` isn't
-run. Prints how many were read and how many of each message came, and the first that is neither.
+Each is read and priced, and what `check` says of its plan by years is asked for; of one of 4 all that
+`check` says, and of one of 100 the slopes are searched. `pit` isn't run.
 """
-import itertools
-import multiprocessing
-import random
 import re
-import sys
-import tempfile
-import time
-import traceback
-import warnings
-from collections import Counter
-from pathlib import Path
+from contextlib import contextmanager
 
-sys.path[:0] = [str(Path(__file__).resolve().parents[2]), str(Path(__file__).resolve().parent)]
-
-import mines  # noqa: E402
-from pitplan.base.errors import exit_status  # noqa: E402
-from pitplan.base.errors import PlanError  # noqa: E402
-from pitplan.study.study_file import read_study_file  # noqa: E402
+import fuzzing
+import mines
+from pitplan.base.errors import exit_status
+from pitplan.base.errors import PlanError
+from pitplan.schedule.terms import terms_of, wrong_terms
+from pitplan.study import check
+from pitplan.study.study_file import read_study_file
 
 FULL = """[model]
 table = "t.csv"
@@ -63,6 +51,72 @@ mining_rate = 1e6
 mill_rate = 5e5
 discount = 0.08
 """
+BY_YEARS = """[model]
+table = "t.csv"
+size = [20, 20, 15]
+columns = { x = "XC", y = "YC", class = "CLASS" }
+tonnes = "TONNES * 0.9"
+units = { length = "ft", weight = "st" }
+missing = "rock"
+fill = { tonnes = 9000, ROCK = "OXI" }
+encoding = "utf-8"
+decimal = "."
+skip = 0
+
+[economics]
+mining = { OXI = 2.0, SUL = 2.5 }
+waste_classes = ["INF"]
+exchange = { EUR = 1.08 }
+metals = [
+  { name = "copper", grade = "CU", price = 8500, selling = 300, currency = "EUR", recovery = { OXI = 0.7, SUL = 0.9 } },
+]
+[[economics.processes]]
+name = "mill"
+cost = "9 + CU"
+rate = 4e5
+recovery = { copper = 0.88 }
+payable = { copper = 0.96 }
+dilution = 0.02
+mining_recovery = 0.98
+[[economics.processes]]
+name = "leach"
+rocks = ["OXI"]
+cost = 3.5
+rate = 2e5
+
+[slopes]
+angles = [[0, 40], [180, 48]]
+by = "where(below_ground < 30, 'WEATHERED', 'FRESH')"
+regions = { WEATHERED = 38, FRESH = [[0, 42], [180, 50]] }
+ramp = { WEATHERED = { width = 10, grade = 0.10, height = 60, turns = 1 } }
+levels = 6
+
+[shells]
+factors = [0.6, 0.8, 1.0]
+mining_rate = 1e6
+discount = 0.08
+
+[schedule]
+years = 6
+per_year = 2
+when = "end"
+mining_rate = [600e3, 500e3]
+process_rates = { mill = [0, 3e5], leach = 1e5 }
+discount = 0.07
+cutoff = "by year"
+sink = 3
+panel = 2
+pushbacks = [0.6, 0.8]
+lead = 1
+fixed_cost = 250e3
+"""
+MILLED = mines.STUDY_TOML + """
+[schedule]
+mining_rate = 900e3
+mill_rate = [0, 4e5]
+when = "start"
+"""
+WHOLE = (FULL, BY_YEARS, MILLED)
 VALUES = [
     "0",
     "-1",
@@ -116,6 +170,7 @@ VALUES = [
     "1e-9",
     "90",
 ]
+TIMES = (0, 0.1, 0.5, 0.9, 1.1, 2, 10, 1e6)  # what a number is multiplied by
 CELLS = [
     "",
     "-99",
@@ -144,19 +199,25 @@ CELLS = [
     "\x1b[2J",
     "None",
 ]
-BYTES = [b"\xff", b"\x00", b"\xef\xbb\xbf", b"\r", b"\n", b'"', b",", b";", b"\t", b"\xc3\x28"]
-SEARCHED = 100  # one sample of so many has its slopes searched for, which takes seconds where angles are strange
-
 
 def changed_study(text, r):
     """A study.toml with a change."""
     lines = text.split("\n")
     at = r.choice([i for i, line in enumerate(lines) if line.strip()] or [0])
     kind = r.choice(
-        ["value"] * 5 + ["inner"] * 3 + ["gone", "doubled", "key", "section", "byte", "moved"]
+        ["value"] * 4
+        + ["inner"] * 3
+        + ["number"] * 5
+        + ["gone", "doubled", "key", "section", "byte", "moved"]
     )
     if kind == "value" and "=" in lines[at]:
         lines[at] = lines[at].split("=")[0] + "= " + r.choice(VALUES)
+    elif kind == "number":
+        parts = re.split(r"(?<=[ \[])(\d[\d.e]*)", lines[at])
+        if len(parts) > 1:
+            place = r.randrange(1, len(parts), 2)
+            parts[place] = f"{float(parts[place]) * r.choice(TIMES):.12g}"
+        lines[at] = "".join(parts)
     elif kind == "inner":
         parts = re.split(r'(-?[\d.]+|"[^"]*"|true|false)', lines[at])
         if len(parts) > 1:
@@ -222,7 +283,7 @@ def changed_table(data, r):
         lines.insert(at, lines[at])
     elif kind == "byte":
         place = r.randrange(len(data) + 1)
-        return data[:place] + r.choice(BYTES) + data[place:]
+        return data[:place] + r.choice(fuzzing.BYTES) + data[place:]
     elif kind == "cut":
         return data[: r.randrange(len(data) + 1)]
     elif kind == "separator":
@@ -232,83 +293,62 @@ def changed_table(data, r):
     return b"\n".join(lines)
 
 
-def sample(number, seed):
-    """A study.toml and a table, by a number."""
-    r = random.Random(f"{seed}-{number}")
-    text, table = r.choice([FULL, FULL, mines.STUDY_TOML]), TABLE
-    for _ in range(r.randint(1, 4)):
+def sample(r):
+    """A study.toml, a table, and how far they are gone through."""
+    text, table = r.choice(WHOLE), TABLE
+    for _ in range(r.choice((1, 1, 2, 3, 4))):
         if r.random() < 0.6:
             text = changed_study(text, r)
         else:
             table = changed_table(table, r)
-    return text, table
+    return text, table, r.random()
 
 
-TABLE = mines.table(5, 4, 3, 3).to_csv(index=False).encode()
-MESSAGE = re.compile(r"[^\n]+(\n  try: [^\n]+)?")
+def shown(sample):
+    return f"{sample[0]}\n----\n{sample[1]!r}"
 
 
-def answer(folder, text, table, is_searched=True):
-    """What pitplan says of a study: "read", or the beginning of its message. Raises whatever is
-    neither."""
+def _table():
+    frame = mines.table(5, 4, 3, 3)
+    frame["CLASS"] = ["MEA", "IND", "INF"] * (len(frame) // 3) + ["MEA"] * (len(frame) % 3)
+    return frame.to_csv(index=False).encode()
+
+
+TABLE = _table()
+CHECKED, SEARCHED = 0.25, 0.01  # of the samples; a search takes seconds where angles are strange
+
+
+@contextmanager
+def room(folder):
+    """The folder of a study."""
+    yield folder
+
+
+def answer(folder, sample):
+    """What pitplan says of a study: "read", with its plan by years or without, or the status of its
+    message. Raises whatever is neither."""
+    text, table, far = sample
     (folder / "study.toml").write_text(text, "utf-8", "surrogatepass")
     (folder / "t.csv").write_bytes(table)
+    if far < CHECKED:
+        for error in check.check(folder).errors:
+            fuzzing.refuse_other_form(error)
     try:
         plan = read_study_file(folder)
         model = plan.read_model()
-        plan.economics.priced(model)
+        priced = plan.economics.priced(model)
         plan.slopes.region_of(model)
-        if is_searched:
+        if far < SEARCHED:
             plan.slopes.settings(model.grid, column=4)
     except PlanError as error:
-        if not all(MESSAGE.fullmatch(str(each)) for each in error.each()):
-            raise AssertionError(f"a message of another form: {str(error)!r}") from error
+        fuzzing.refuse_other_form(error)
         return f"status {exit_status(error)}"
-    return "read"
-
-
-def fuzzed(words):
-    """Samples of one process: counts of the answers, and the first sample that wasn't answered."""
-    first, step, samples, until, seed = words
-    found = Counter()
-    with tempfile.TemporaryDirectory() as room, warnings.catch_warnings():
-        warnings.simplefilter("error")  # a planner would see them beside the message
-        for number in itertools.count(first, step):
-            if number >= samples or time.time() > until:
-                return found, None
-            text, table = sample(number, seed)
-            try:
-                found[answer(Path(room), text, table, number % SEARCHED == 0)] += 1
-            except Exception:
-                return (
-                    found,
-                    f"sample {number} of seed {seed}:\n{text}\n----\n{table!r}\n----\n{traceback.format_exc()}",
-                )
-    return found, None
-
-
-def run(samples, seconds=10**6, seed=1, workers=1):
-    """Counts of the answers, and the first samples that weren't answered, one of each process."""
-    words = [(first, workers, samples, time.time() + seconds, seed) for first in range(workers)]
-    if workers == 1:
-        results = [fuzzed(words[0])]
-    else:
-        with multiprocessing.Pool(workers) as pool:
-            results = pool.map(fuzzed, words)
-    return sum((found for found, _ in results), Counter()), [bad for _, bad in results if bad]
-
-
-def main():
-    words = [float(word) for word in sys.argv[1:]] + [2000, 10**6, 1][len(sys.argv) - 1 :]
-    began = time.time()
-    found, bad = run(int(words[0]), words[1], int(words[2]), 2)
-    print(
-        f"{found.total()} samples in {time.time() - began:.0f} s: "
-        + ", ".join(f"{count} {what}" for what, count in found.most_common())
-    )
-    print("\n".join(bad) or "each was answered")
-    return 1 if bad else 0
-
-
-if __name__ == "__main__":
-    sys.exit(main())
+    for error in (wrong := wrong_terms(plan, "pitplan shells s")):
+        fuzzing.refuse_other_form(error)
+    tonnes = float(model.blocks.tonnes.sum())
+    try:
+        terms_of(plan.values["schedule"], plan.rates, tonnes, [tonnes] * len(priced.ways))
+    except PlanError as error:
+        fuzzing.refuse_other_form(error)
+        return "read without a plan"
+    return "read without a plan" if wrong else "read"

@@ -57,6 +57,13 @@ def answer(asked):
     os.chdir(parts[int(count)])
     os.environ.clear()
     os.environ.update(part.split("=", 1) for part in parts[int(count) + 1 :])
+    status = status_of_main()
+    asked.sendall(bytes([status]))
+    os._exit(0)
+
+
+def status_of_main():
+    """Runs the command line of `sys.argv` in this process, and gives its exit status."""
     from pitplan.cli.main import main
 
     status = 70
@@ -70,15 +77,11 @@ def answer(asked):
         traceback.print_exc()
     sys.stdout.flush()
     sys.stderr.flush()
-    asked.sendall(bytes([status]))
-    os._exit(0)
+    return status
 
 
-def serve(path):
-    """Serves until its standard input ends, which is when the tests do."""
-    import select
-
-    sys.path[:0] = [os.path.join(TOP, "python"), HERE]
+def load_all():
+    """Imports all of pitplan, so that forks have it."""
     import pkgutil
     import importlib
     import pitplan
@@ -90,6 +93,14 @@ def serve(path):
 
     matplotlib.use("Agg")
     import matplotlib.pyplot  # noqa: F401
+
+
+def serve(path):
+    """Serves until its standard input ends, which is when the tests do."""
+    import select
+
+    sys.path[:0] = [os.path.join(TOP, "python"), HERE]
+    load_all()
     from mines import SIZE
     from pitplan.slopes.offsets import wall
     from pitplan.slopes.slopes import kept_search

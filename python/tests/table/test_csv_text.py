@@ -401,7 +401,7 @@ def test_cells_about_a_row_stand_below_their_names(tmp_path):
     """Also after a cell in quotes that has a comma, or a quote that nothing ends."""
     rows = ["IJK,ROCK,CU", 'b1,"OXI, upper",0.5', "b2,SUL,x", 'b3,"SUL,0.1', "b4,SUL,0.2"]
     (tmp_path / "t.csv").write_text("\n".join(rows) + "\n")
-    assert rows_about(tmp_path / "t.csv", 3, "utf-8-sig", 3) == [
+    assert rows_about(tmp_path / "t.csv", "3", "utf-8-sig", 3) == [
         (1, ["IJK", "ROCK", "CU"]),
         (2, ["b1", "OXI, upper", "0.5"]),
         (3, ["b2", "SUL", "x"]),
