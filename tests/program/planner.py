@@ -136,7 +136,8 @@ LANES = ([("studies", 1)], [("kept", 0.5), ("desk", 0.5)])
 
 def fuzz(top, pit, minutes, seed):
     """Throws damaged studies, kept files and requests at pitplan for so many minutes: each is answered by a result or a
-    message, never by a traceback. Gives how many of the kinds were answered throughout, and how many weren't."""
+    message, never by a traceback. Gives how many of the kinds were answered throughout, and how many weren't.
+    """
 
     def tried(kind, share):
         words = [PYTHON, "tests/support/fuzzing.py", kind, str(60 * minutes * share), str(seed)]

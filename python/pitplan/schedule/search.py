@@ -50,6 +50,7 @@ _OFTEN = 4  # how often it gets longer
 _OF_LEFT = 0.9  # of the time that is left, which annealing may take
 _STALE = 8  # rounds in a row that bring next to nothing, after which the search ends
 _LONGEST = 1e9  # seconds of a search
+_MOST_ROUNDS = 2**31  # more than there are ever
 _NOTHING = 2e-6  # of the worth: what counts as next to nothing
 
 
@@ -253,15 +254,18 @@ class Search:
             self.kept.keep_schedule(plan)
 
     def clusters(self) -> Clusters:
-        """Those that an earlier search ended with, or those to begin with."""
+        """Those that an earlier search ended with, or those to begin with. Whatever numbers are kept,
+        those that are the same are a cluster."""
         kept, made = self.arrays("partition"), self.production
-        shapes = {"dug": made.units, "sent": len(made.millable.block)}
+        first, shapes = begun(made), {"dug": made.units, "sent": len(made.millable.block)}
         if any(
-            name not in kept or kept[name].shape != (rows, made.periods)
+            name not in kept
+            or kept[name].shape != (rows, made.periods)
+            or kept[name].dtype.kind not in "iu"
             for name, rows in shapes.items()
         ):
-            return begun(made)
-        return Clusters(*(kept[name].astype(np.int64) for name in shapes))
+            return first
+        return Clusters.renamed(*(kept[name].astype(np.int64) for name in shapes), first.there)
 
     def lower(self, gap: float, ends: float) -> _Shared | None:
         """Looks for better bounds, until the best is near the relaxation or the time is up; a first
@@ -352,7 +356,7 @@ class Search:
     def swap(self, gap: float, ends: float) -> str:
         """Swaps between neighbouring periods in rounds, then windows of these in turns with
         annealing, longer each time, until all bring next to nothing. Gives why it ended."""
-        stale, seed = 0, int(self.arrays("swaps").get("seed", np.array(0)))
+        stale, seed = 0, self.seed()
         while True:
             if self.found.gap <= gap:
                 return GAP
@@ -367,6 +371,12 @@ class Search:
             self.one_round(seed)
             self.kept.keep_arrays("swaps", seed=np.array(seed))
             stale = stale + 1 if self.found.npv - before <= _NOTHING * abs(before) else 0
+
+    def seed(self) -> int:
+        """That of the last round of an earlier search; 0 where none is kept."""
+        found = self.arrays("swaps").get("seed", np.array(0))
+        is_one = found.shape == () and found.dtype.kind in "iu" and 0 <= found < _MOST_ROUNDS
+        return int(found) if is_one else 0
 
     def one_round(self, seed: int) -> None:
         """One round: of swaps, and after some of these of windows or of annealing, whichever gained

@@ -21,6 +21,7 @@ from served import pitplan
 
 ORIGIN = "http://desk"
 
+
 @pytest.fixture
 def study(tmp_path, monkeypatch):
     """A study of a part of the example, whose runs aren't begun."""

@@ -176,3 +176,38 @@ def test_what_gained_more_goes_on(tmp_path, gains, order):
     search.plan, search.end = search.sorting.by_shells(), searching.End("killed", 0.0, 1.0)
     search.found = searching.Found(bound=10**9, npv=10**8)
     assert rounds_of(search, gains) == order
+
+
+@pytest.mark.parametrize(
+    "seed", [[1, 2], -5, 2.5, 2**63, "7", True, 1j], ids=["list", "below 0", *"abcde"]
+)
+def test_a_damaged_number_of_rounds_is_begun_anew(tmp_path, seed):
+    """One that NumPy reads: it may be any array."""
+    search = Search(tmp_path, five_columns()[0], None)
+    search.kept.keep_arrays("swaps", seed=np.array(7))
+    assert search.seed() == 7
+    search.kept.keep_arrays("swaps", seed=np.array(seed))
+    assert search.seed() == 0
+
+
+@pytest.mark.filterwarnings("error")
+@pytest.mark.parametrize(
+    "change",
+    [
+        lambda dug: dug * 1000 - 7,
+        lambda dug: dug.astype(float) * np.nan,
+        lambda dug: dug.astype(complex),
+        lambda dug: dug.astype("U3"),
+        lambda dug: np.full_like(dug, -1),
+    ],
+    ids=["gaps", "nan", "complex", "words", "none"],
+)
+def test_a_damaged_partition_is_still_one(tmp_path, change):
+    """Its clusters are numbers from 0 on, and each share that may be there has one."""
+    made = five_columns()[0]
+    search = Search(tmp_path, made, None)
+    first = search.clusters()
+    search.kept.keep_arrays("partition", dug=change(first.dug), sent=first.sent)
+    found = search.clusters()
+    there = np.append(found.dug[first.dug >= 0], found.sent[first.sent >= 0])
+    assert sorted(set(there.tolist())) == list(range(found.size))

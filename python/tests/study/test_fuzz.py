@@ -1,19 +1,37 @@
-"""A short run of the fuzzer over damaged studies; `python3 python/tests/support/fuzz_studies.py
-20000` is the long one."""
+"""A short run of the fuzzer over damaged studies; `python3 python/tests/support/fuzzing.py studies 600`
+is a long one."""
+import tomllib
+
 import pytest
 
 import fuzz_studies
+import fuzzing
 import mines
 import pitplan as pp
 from pitplan.base.errors import PlanError
 from pitplan.study import shells
+from pitplan.table.study_keys import KEYS, LISTS
 
 
 def test_each_damaged_study_is_answered():
-    found, bad = fuzz_studies.run(150, 120)
-    assert not bad, bad[0]
+    found, bad = fuzzing.run(fuzz_studies, 150, 120)
+    assert bad is None, bad
     assert found["status 3"] > 20, found
     assert found["read"] > 2, found
+
+
+def test_each_key_stands_in_a_whole_study():
+    said = set()
+    for text in fuzz_studies.WHOLE:
+        for section, keys in tomllib.loads(text).items():
+            said |= {(section, name) for name in keys}
+            said |= {(of, name) for of in LISTS for each in keys.get(of, ()) for name in each}
+    assert {(key.section, key.name) for key in KEYS} <= said
+
+
+@pytest.mark.parametrize("text", fuzz_studies.WHOLE)
+def test_each_whole_study_is_read(tmp_path, text):
+    assert fuzz_studies.answer(tmp_path, (text, fuzz_studies.TABLE, 0)) == "read"
 
 
 def test_a_sample_that_is_not_answered_is_found(monkeypatch):
@@ -25,11 +43,11 @@ def test_a_sample_that_is_not_answered_is_found(monkeypatch):
 
     for error in (KeyError("x"), Odd("x")):
 
-        def failing(folder, error=error):
+        def failing(*_, error=error):
             raise error
 
         monkeypatch.setattr(fuzz_studies, "read_study_file", failing)
-        assert len(fuzz_studies.run(1)[1]) == 1
+        assert "again: python3 " in fuzzing.run(fuzz_studies, 1)[1]
 
 
 @pytest.mark.parametrize("share", [float("nan"), float("inf"), -float("inf")])

@@ -42,16 +42,82 @@ MEANT = {200, 304, 400, 403, 404, 405, 409, 413, 415, 421, 422}
 MOST_SAID = 200  # bytes of an answer that are shown
 TABLE = mines.table(7, 6, 4, 3).to_csv(index=False).encode()
 SOUND = ["/api/folder", "/desk.html", "/files/s/out/pits.html", "/files/s/bundle-1.zip"]
-SOUND += [f"/api/studies/s{it}" for it in ("", "/look", "/check", "/rose", "/rose.png", "/ground?what=CU", "/cells?row=3")]
+SOUND += [
+    f"/api/studies/s{it}"
+    for it in ("", "/look", "/check", "/rose", "/rose.png", "/ground?what=CU", "/cells?row=3")
+]
 METHODS = "GET HEAD POST PUT PATCH DELETE OPTIONS TRACE get FOO".split()
-NAMES = ("s", "t", "t.csv", "u.csv.gz", "d.dxf", "d.txt", "d.csv", "..", ".", "", "-x", "a/b", "link", "study.toml")
-NAMES += ("é", "\ud800", "\0", "x" * 90, "x" * 300, "x" * 9000, "out/x", "out/pits.html", "log/", "bundle-1.zip")
-NAMES += ("../secret.csv", "../../etc/passwd", "/etc/passwd", "out/../../secret.csv", "link/secret.csv", "CON")
-NAMES += ("out/link.csv", "log/desk/0001-build/log", "designs/..", "%2e%2e", "desk.html", "desk.js", "con\n")
-QUERIES = ("", "what=CU", "what=", "what=ROCK&what=x", "row=3", "row=-1", "row=x", "row=" + "9" * 5000, "from=0")
-QUERIES += ("from=-5", "from=x", "from=" + "9" * 400, "over=1", "save", "token=the-token", "token=%ff", "%", "&=&")
+NAMES = (
+    "s",
+    "t",
+    "t.csv",
+    "u.csv.gz",
+    "d.dxf",
+    "d.txt",
+    "d.csv",
+    "..",
+    ".",
+    "",
+    "-x",
+    "a/b",
+    "link",
+    "study.toml",
+)
+NAMES += (
+    "é",
+    "\ud800",
+    "\0",
+    "x" * 90,
+    "x" * 300,
+    "x" * 9000,
+    "out/x",
+    "out/pits.html",
+    "log/",
+    "bundle-1.zip",
+)
+NAMES += (
+    "../secret.csv",
+    "../../etc/passwd",
+    "/etc/passwd",
+    "out/../../secret.csv",
+    "link/secret.csv",
+    "CON",
+)
+NAMES += (
+    "out/link.csv",
+    "log/desk/0001-build/log",
+    "designs/..",
+    "%2e%2e",
+    "desk.html",
+    "desk.js",
+    "con\n",
+)
+QUERIES = (
+    "",
+    "what=CU",
+    "what=",
+    "what=ROCK&what=x",
+    "row=3",
+    "row=-1",
+    "row=x",
+    "row=" + "9" * 5000,
+    "from=0",
+)
+QUERIES += (
+    "from=-5",
+    "from=x",
+    "from=" + "9" * 400,
+    "over=1",
+    "save",
+    "token=the-token",
+    "token=%ff",
+    "%",
+    "&=&",
+)
 QUERIES += ("a" * 9000, "%ed%a0%80=1", "what=%00", "what=\xff")
-BUTTONS = "build slopes shells all schedule risk page phases compare vary plot export bundle x".split()
+BUTTONS = (
+    "build slopes shells all schedule risk page phases compare vary plot export bundle x".split()
+)
 FIELDS = {
     "factors": [0.6, 1.0],
     "mining_width": 40,
@@ -88,7 +154,12 @@ class Served:
     """A desk in a thread, what it prints, and the files that it opens outside of its folder."""
 
     def __init__(self, folder):
-        self.sound, self.root, self.log, self.outside = folder / "sound", folder / "root", io.StringIO(), []
+        self.sound, self.root, self.log, self.outside = (
+            folder / "sound",
+            folder / "root",
+            io.StringIO(),
+            [],
+        )
         (folder / "secret.csv").write_text(f"x,y,z\n{SECRET},2,3\n")
         _written(self.sound)
         self.again()
@@ -114,7 +185,9 @@ class Served:
         shutil.copytree(self.sound, self.root, symlinks=True, dirs_exist_ok=True)
 
     def serves(self):
-        self.server = uvicorn.Server(uvicorn.Config(self.app, **SERVED))  # whose log is the error output as it is now
+        self.server = uvicorn.Server(
+            uvicorn.Config(self.app, **SERVED)
+        )  # whose log is the error output as it is now
         asyncio.run(self.server.serve(sockets=[self.listens]))
 
     def hears(self, event, words):
@@ -129,7 +202,16 @@ class Served:
                 self.outside.append((event, words))
 
 
-EVENTS = ("open", "os.mkdir", "os.rename", "os.remove", "os.rmdir", "os.symlink", "subprocess.Popen", "os.system")
+EVENTS = (
+    "open",
+    "os.mkdir",
+    "os.rename",
+    "os.remove",
+    "os.rmdir",
+    "os.symlink",
+    "subprocess.Popen",
+    "os.system",
+)
 _heard = []  # the desk that is heard: an audit hook can't be taken away
 
 
@@ -145,7 +227,13 @@ def _written(root):
     mines.written_study(root / "s", mines.table(7, 6, 4, 3))
     (root / "t.csv").write_bytes(TABLE)
     (root / "u.csv.gz").write_bytes(gzip.compress(TABLE))
-    for name in ("out/pits.html", "out/a.csv", "designs/d.txt", "bundle-1/a.txt", "log/desk/0001-build/log"):
+    for name in (
+        "out/pits.html",
+        "out/a.csv",
+        "designs/d.txt",
+        "bundle-1/a.txt",
+        "log/desk/0001-build/log",
+    ):
         (root / "s" / name).parent.mkdir(parents=True, exist_ok=True)
         (root / "s" / name).write_text("0\n")
     asked = {"what": "build", "steps": [["build", "s"]], "who": "me", "asked": {"what": "build"}}
@@ -189,9 +277,17 @@ def room(folder):
 
 def of(held, method, target, body=b"", kind="application/json", headers=None):
     """A request as bytes, of the desk's own page unless its headers are others."""
-    own = {"host": held.host, "origin": held.origin, "cookie": f"{COOKIE}={TOKEN}", "content-type": kind}
+    own = {
+        "host": held.host,
+        "origin": held.origin,
+        "cookie": f"{COOKIE}={TOKEN}",
+        "content-type": kind,
+    }
     own |= {"content-length": str(len(body)), "connection": "close"} | (headers or {})
-    lines = [f"{method} {target} HTTP/1.1", *(f"{name}: {it}" for name, it in own.items() if it is not None)]
+    lines = [
+        f"{method} {target} HTTP/1.1",
+        *(f"{name}: {it}" for name, it in own.items() if it is not None),
+    ]
     return "\r\n".join([*lines, "", ""]).encode("utf-8", "surrogatepass") + body
 
 
@@ -250,7 +346,11 @@ def answer(held, sample):
     assert SECRET.encode() not in said, said[:MOST_SAID]
     outside, held.outside = held.outside, []
     assert not outside, outside
-    assert sorted(path.name for path in held.root.parent.iterdir()) == ["root", "secret.csv", "sound"]
+    assert sorted(path.name for path in held.root.parent.iterdir()) == [
+        "root",
+        "secret.csv",
+        "sound",
+    ]
     if b"{" == said[:1] and status >= 400:
         errors = json.loads(said)["errors"]
         assert errors and all(each["said"].strip() for each in errors), said[:MOST_SAID]
@@ -276,9 +376,15 @@ def changed_target(target, r):
         return target.partition("?")[0] + "?" + r.choice(QUERIES)
     elif kind == 4:
         at = r.randrange(len(target) + 1)
-        return target[:at] + r.choice(("%00", "%ff", "%2f", "%", "//", "\\", ";", "#", "*", "é", "%0d%0a")) + target[at:]
+        return (
+            target[:at]
+            + r.choice(("%00", "%ff", "%2f", "%", "//", "\\", ";", "#", "*", "é", "%0d%0a"))
+            + target[at:]
+        )
     else:
-        return r.choice(("*", "http://evil.example/", "//evil.example/x", "", "/" * 500, "/" + "a/" * 3000))
+        return r.choice(
+            ("*", "http://evil.example/", "//evil.example/x", "", "/" * 500, "/" + "a/" * 3000)
+        )
     return "/".join(parts)
 
 
@@ -292,16 +398,57 @@ def _quoted(name, r):
 def changed_body(body, r):
     """A body with other bytes, cut off, nested deep, or none of JSON."""
     deep = r.choice((10, 900, 100_000))
-    odd = [b"[" * deep, b'{"changes":' * deep, b"NaN", b"1e999", b"9" * 5000, b'"' + b"x" * 50_000 + b'"', b"{}", b"[]"]
-    odd += [b'{"changes": [{"path": ["a"], "value": NaN}]}', b'{"what": "vary", "changes": [["price", -1e999, 1]]}']
+    odd = [
+        b"[" * deep,
+        b'{"changes":' * deep,
+        b"NaN",
+        b"1e999",
+        b"9" * 5000,
+        b'"' + b"x" * 50_000 + b'"',
+        b"{}",
+        b"[]",
+    ]
+    odd += [
+        b'{"changes": [{"path": ["a"], "value": NaN}]}',
+        b'{"what": "vary", "changes": [["price", -1e999, 1]]}',
+    ]
     return r.choice(odd) if r.random() < 0.4 else fuzzing.changed_bytes(body, r)
 
 
 def changed_header(r):
     """A header that is another, there twice, or gone."""
-    odd = ("", "x", "null", "é", "http://evil.example", "evil.example", "desk:99999", "a" * 9000, "*", None, "localhost")
-    odd += ("-1", "9" * 30, "1_0", "+5", "chunked", "\x7f", "text/plain", "application/json; charset=x", f"{COOKIE}=")
-    odd += (f"{COOKIE}=é", f"{COOKIE}={TOKEN}x", f"x=1; {COOKIE}={TOKEN}", "bytes=0-1", "bytes=9-1", "bytes=x")
+    odd = (
+        "",
+        "x",
+        "null",
+        "é",
+        "http://evil.example",
+        "evil.example",
+        "desk:99999",
+        "a" * 9000,
+        "*",
+        None,
+        "localhost",
+    )
+    odd += (
+        "-1",
+        "9" * 30,
+        "1_0",
+        "+5",
+        "chunked",
+        "\x7f",
+        "text/plain",
+        "application/json; charset=x",
+        f"{COOKIE}=",
+    )
+    odd += (
+        f"{COOKIE}=é",
+        f"{COOKIE}={TOKEN}x",
+        f"x=1; {COOKIE}={TOKEN}",
+        "bytes=0-1",
+        "bytes=9-1",
+        "bytes=x",
+    )
     names = "host origin cookie content-type content-length sec-fetch-site range if-range transfer-encoding expect"
     names += " if-none-match if-modified-since accept-encoding upgrade x-forwarded-for x"
     return {r.choice(names.split()): r.choice(odd)}
@@ -352,17 +499,28 @@ def _patch(r):
     changes = [change(r) for _ in range(r.choice((1, 1, 2, 3)))]
     if r.random() < 0.9:
         return "PATCH", "/api/studies/s", {"changes": changes}
-    return "PATCH", "/api/studies/s", {r.choice(("run", "etag", "changes", "text", "keeps")): value(r)}
+    return (
+        "PATCH",
+        "/api/studies/s",
+        {r.choice(("run", "etag", "changes", "text", "keeps")): value(r)},
+    )
 
 
 def _begin(r):
-    asked = {"table": r.choice(("t.csv", "u.csv.gz")), "name": "n", "columns": {"x": "XC"}, "encoding": "utf-8"}
+    asked = {
+        "table": r.choice(("t.csv", "u.csv.gz")),
+        "name": "n",
+        "columns": {"x": "XC"},
+        "encoding": "utf-8",
+    }
     asked = r.choice(({"copy": "s"}, {key: it for key, it in asked.items() if r.random() < 0.7}))
     return "POST", "/api/studies", {**asked, **{key: value(r) for key in asked if r.random() < 0.2}}
 
 
 def _button(r):
-    fields = {key: it if r.random() < 0.8 else value(r) for key, it in FIELDS.items() if r.random() < 0.7}
+    fields = {
+        key: it if r.random() < 0.8 else value(r) for key, it in FIELDS.items() if r.random() < 0.7
+    }
     where = r.choice(("commands", "runs"))
     return "POST", f"/api/studies/s/{where}", {"what": r.choice(BUTTONS), **fields}
 
@@ -371,18 +529,45 @@ def _upload(r):
     where, table = r.choice(("/api/tables/", "/api/studies/s/designs/")), TABLE
     for _ in range(r.randint(0, 3)):
         table = changed_table(table, r)
-    odd = (b"0\nSECTION\n", b"x,y,z\n1,2,3\n", b"id\n1\n", b"\0\xff", b"", gzip.compress(table), b"x" * (LIMIT + 1))
-    name = _quoted(r.choice(("new.csv", "new.csv.gz", "t.csv", "d.dxf", "d.txt", r.choice(NAMES))), r)
+    odd = (
+        b"0\nSECTION\n",
+        b"x,y,z\n1,2,3\n",
+        b"id\n1\n",
+        b"\0\xff",
+        b"",
+        gzip.compress(table),
+        b"x" * (LIMIT + 1),
+    )
+    name = _quoted(
+        r.choice(("new.csv", "new.csv.gz", "t.csv", "d.dxf", "d.txt", r.choice(NAMES))), r
+    )
     return "PUT", where + name + r.choice(("", "?over=1")), r.choice((table, r.choice(odd)))
 
 
 def _file(r):
     where = r.choice(("/files/s/", "/files/", "/manual/", "/", "/api/studies/"))
-    return "GET", where + _quoted(r.choice(NAMES), r) + r.choice(("", "?" + r.choice(QUERIES))), None
+    return (
+        "GET",
+        where + _quoted(r.choice(NAMES), r) + r.choice(("", "?" + r.choice(QUERIES))),
+        None,
+    )
 
 
 def _question(r):
-    what = r.choice(("", "/pulse", "/look", "/check", "/rose", "/rose.png", "/ground", "/cells", "/runs/1", "/runs/x"))
+    what = r.choice(
+        (
+            "",
+            "/pulse",
+            "/look",
+            "/check",
+            "/rose",
+            "/rose.png",
+            "/ground",
+            "/cells",
+            "/runs/1",
+            "/runs/x",
+        )
+    )
     words = r.choice(("", "?" + r.choice(QUERIES)))
     return r.choice(("GET", "GET", "GET", "DELETE")), f"/api/studies/s{what}{words}", None
 

@@ -49,14 +49,16 @@ TOLD = re.compile(r"^error: [^\n]+(\n  [^\n]*)*\n  try: [^\n]+", re.MULTILINE)
 
 
 # what is told where files are of another model, of other terms, or not there
-OTHER = re.compile("no schedule by the terms|haven't been run|the plan by years isn't in it|has changed since|wasn't built")
+OTHER = re.compile(
+    "no schedule by the terms|haven't been run|the plan by years isn't in it|has changed since|wasn't built"
+)
 
 
 @contextmanager
 def room(folder):
     """A study with its plan as it was made, and beside it where copies are damaged."""
     sound = folder / "sound"
-    planned.built(sound / "s", frame=mines.table(7, 6, 4, 5))
+    planned.built(sound / "s", frame=mines.table(5, 4, 3, 5))
     served.load_all()
     status, said = ran(sound, ("schedule", "s", "--gap", "5", "--minutes", "1"))
     assert status == 0, said
@@ -105,7 +107,11 @@ def read_all(folder):
     made = production_for(Shells(study, plan.factors), plan.values["schedule"], plan.rates)
     search = Search(folder, made, study.program, None, study.files)
     cluster = search.clusters()
-    assert np.unique(cluster.dug[cluster.there.dug]).max() < cluster.size <= cluster.dug.size + cluster.sent.size
+    assert (
+        np.unique(cluster.dug[cluster.there.dug]).max()
+        < cluster.size
+        <= cluster.dug.size + cluster.sent.size
+    )
     search.swap(1, 0)
 
 
@@ -202,7 +208,9 @@ def _other_arrays(data, r):
         arrays[name] = one.astype(r.choice(TYPES))
     elif kind == 3 and one.size:
         flat = one.reshape(-1).copy()
-        flat[r.randrange(flat.size)] = r.choice(flat) if flat.dtype.kind in "US" else r.choice((0, 1, 2, 100))
+        flat[r.randrange(flat.size)] = (
+            r.choice(flat) if flat.dtype.kind in "US" else r.choice((0, 1, 2, 100))
+        )
         arrays[name] = flat.reshape(one.shape)
     elif kind == 4:
         arrays[name] = np.roll(one, 1) if one.ndim else one

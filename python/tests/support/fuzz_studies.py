@@ -110,12 +110,15 @@ pushbacks = [0.6, 0.8]
 lead = 1
 fixed_cost = 250e3
 """
-MILLED = mines.STUDY_TOML + """
+MILLED = (
+    mines.STUDY_TOML
+    + """
 [schedule]
 mining_rate = 900e3
 mill_rate = [0, 4e5]
 when = "start"
 """
+)
 WHOLE = (FULL, BY_YEARS, MILLED)
 VALUES = [
     "0",
@@ -199,6 +202,7 @@ CELLS = [
     "\x1b[2J",
     "None",
 ]
+
 
 def changed_study(text, r):
     """A study.toml with a change."""

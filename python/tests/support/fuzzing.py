@@ -31,9 +31,50 @@ PATIENCE = 300  # seconds in which a sample has to be answered, on a busy machin
 MESSAGE = re.compile(r"[^\n]+(\n  try: [^\n]+)?")
 BYTES = [b"\xff", b"\x00", b"\xef\xbb\xbf", b"\r", b"\n", b'"', b",", b";", b"\t", b"\xc3\x28"]
 # what JSON may have in place of another value: also of other types, too large, or no text
-JUNK = [None, True, False, 0, 1, -1, 2, 2.5, -0.5, 1e300, 1e-320, 2**31, 2**53, 2**63, 10**40, 10**400]
-JUNK += [float("nan"), float("inf"), "", "x", "0", "-1", "9,250", "0,9", "CU", "CU +", "SECTOR", "é"]
-JUNK += ["\ud800", "\0", "\x1b[2J", "'\"", "\n\n[x]", "# x", "[red]", "2024-01-01", "..", "/etc/passwd"]
+JUNK = [
+    None,
+    True,
+    False,
+    0,
+    1,
+    -1,
+    2,
+    2.5,
+    -0.5,
+    1e300,
+    1e-320,
+    2**31,
+    2**53,
+    2**63,
+    10**40,
+    10**400,
+]
+JUNK += [
+    float("nan"),
+    float("inf"),
+    "",
+    "x",
+    "0",
+    "-1",
+    "9,250",
+    "0,9",
+    "CU",
+    "CU +",
+    "SECTOR",
+    "é",
+]
+JUNK += [
+    "\ud800",
+    "\0",
+    "\x1b[2J",
+    "'\"",
+    "\n\n[x]",
+    "# x",
+    "[red]",
+    "2024-01-01",
+    "..",
+    "/etc/passwd",
+]
 JUNK += ["0" * 64, "x" * 5000, [], {}, [[]], [1], [None], ["x"], {"x": 1}, {"name": "x"}]
 
 
@@ -43,7 +84,13 @@ class Late(BaseException):
 
 def places_in(value, path=()):
     """The path of each value within one of JSON."""
-    each = value.items() if isinstance(value, dict) else enumerate(value) if isinstance(value, list) else ()
+    each = (
+        value.items()
+        if isinstance(value, dict)
+        else enumerate(value)
+        if isinstance(value, list)
+        else ()
+    )
     return [path, *(found for key, one in each for found in places_in(one, (*path, key)))]
 
 
@@ -76,7 +123,9 @@ def changed_value(value, r):
 def changed_bytes(data, r):
     """Bytes with a change: some others, cut off, doubled, or a part in another's place."""
     at = r.randrange(len(data) + 1)
-    kind = r.choice(["bit"] * 3 + ["put", "put", "cut", "empty", "gone", "doubled", "moved", "more"])
+    kind = r.choice(
+        ["bit"] * 3 + ["put", "put", "cut", "empty", "gone", "doubled", "moved", "more"]
+    )
     if kind == "bit" and data:
         at = min(at, len(data) - 1)
         return data[:at] + bytes([data[at] ^ 1 << r.randrange(8)]) + data[at + 1 :]
@@ -121,6 +170,7 @@ def tried(kind, held, numbers, seconds=10**6, seed=1):
     before = signal.signal(signal.SIGALRM, _late)
     with warnings.catch_warnings():
         warnings.simplefilter("error")  # a planner would see them beside the message
+        warnings.simplefilter("ignore", ResourceWarning)  # but those
         for number in numbers:
             if number > numbers[0] and time.monotonic() > until:
                 break
