@@ -50,7 +50,8 @@ TOLD = re.compile(r"^error: [^\n]+(\n  [^\n]*)*\n  try: [^\n]+", re.MULTILINE)
 
 # what is told where files are of another model, of other terms, or not there
 OTHER = re.compile(
-    "no schedule by the terms|haven't been run|the plan by years isn't in it|has changed since|wasn't built"
+    "no schedule by the terms|ha(s|ve)n't been run|the plan by years isn't in it|has changed since"
+    "|wasn't built"
 )
 
 
@@ -158,7 +159,8 @@ def damaged(study, sample):
         elif kind < 0.16:
             path.write_bytes(other.read_bytes())
         elif kind < 0.2:
-            shutil.copyfile(other, path.parent / other.name) if other != path else path.unlink()
+            path.write_bytes(other.read_bytes())
+            other.write_bytes(before)
         else:
             for _ in range(r.choice((1, 1, 2, 3, 4))):
                 before = changed(path.suffix, before, r)
