@@ -265,7 +265,8 @@ class Search:
             for name, rows in shapes.items()
         ):
             return first
-        return Clusters.renamed(*(kept[name].astype(np.int64) for name in shapes), first.there)
+        dug, sent = (kept[name].astype(np.int64) for name in shapes)
+        return Clusters.renamed(dug, sent, first.there)
 
     def lower(self, gap: float, ends: float) -> _Shared | None:
         """Looks for better bounds, until the best is near the relaxation or the time is up; a first
