@@ -341,7 +341,7 @@ def answer(held, sample):
     with redirect_stderr(held.log):
         status, said = asked(held, of(held, method, target, body, kind, headers), ends)
     log = held.log.getvalue()[said_before:]
-    assert "Traceback" not in log and "Warning" not in log, log
+    assert not re.search("Traceback|Warning", log), log
     assert status in MEANT or ends and not status, (status, said[:MOST_SAID])
     assert SECRET.encode() not in said, said[:MOST_SAID]
     outside, held.outside = held.outside, []
@@ -353,7 +353,7 @@ def answer(held, sample):
     ]
     if b"{" == said[:1] and status >= 400:
         errors = json.loads(said)["errors"]
-        assert errors and all(each["said"].strip() for each in errors), said[:MOST_SAID]
+        assert all([each["said"].strip() for each in errors] or [""]), said[:MOST_SAID]
     if method not in ("GET", "HEAD"):
         tomllib.loads((held.root / "s" / "study.toml").read_text("utf-8"))
         held.again()
