@@ -177,7 +177,7 @@ def of_patterns(reader):
         )
     return facts + [
         CLIFF,
-        "| `--blocks {}` | a large model. `pit` takes {:,} pairs of a block and a predecessor, so each block may have {} of them. "
+        "| `--blocks {}` | a large model. A `.prec` file has at most {:,} pairs of a block and a predecessor, so each block may have {} of them. "
         "Where no {} offsets".format(
             5_000_000, MOST_PAIRS, MOST_PAIRS // 5_000_000, MOST_PAIRS // 5_000_000
         ),
