@@ -39,7 +39,7 @@ from ..study.study_file import parts_of_file, read_study_file
 from ..table.column_lines import line_of_column
 from ..table.column_names import PLACES, columns_found, nearest
 from ..table.csv_text import SAY_ENCODING, dialect_of, head_of, names_of, numbers_among
-from ..table.csv_text import read_frame, rows_about
+from ..table.csv_text import numbers_and_grids, read_frame, rows_about
 from ..views import slope_rose
 from ..views.ground import from_above
 from .folder import stamp
@@ -87,7 +87,8 @@ def _asked_for(
     for it in errors:
         if it["column"] in set(found.values()) - set(numbers):  # the choice is wrong, not the cells
             it["try"] = "choose another column in its place"
-    free = [name for name in numbers if name not in found.values()]
+    grids = numbers_and_grids(table, dialect)
+    free = {name: is_grid for name, is_grid in grids.items() if name not in found.values()}
     guessed = {key: name for key, name in nearest(missing, free).items() if name in header}
     known = columns_found(header, {})
     return {"errors": errors, "header": header, "known": known, "found": found, "near": guessed}

@@ -97,8 +97,9 @@ class Schedule:
 
     @property
     def npv(self) -> Decimal:
-        """What it is worth: what `pit schedule` says, less the fixed costs."""
-        return Decimal(self.judged.npv) - self.fixed
+        """What it is worth: what `pit schedule` says, less the fixed costs; without zeros at its end,
+        as `pit` writes amounts."""
+        return (Decimal(self.judged.npv) - self.fixed).normalize()
 
     @property
     def count(self) -> int:
