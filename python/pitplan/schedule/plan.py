@@ -22,7 +22,7 @@ from .search_ends import End, Limits, SearchStopped, gap_text
 from .pit_schedule import judged
 from .destinations import Timetable
 from .production import Production, feeds_of, production_of
-from .search import Listener, Search
+from .search import Found, Listener, Search
 from .terms import MILLION, refuse_no_full_price, terms_of
 
 if TYPE_CHECKING:
@@ -158,10 +158,10 @@ class Schedule:
         SearchStopped
             After ctrl-C, with what was found kept.
         """
-        made = production_for(shells, values, rates)
-        place = folder or shells.study.folder
-        search = Search(place, made, shells.study.program, listener, shells.study.files)
+        place, search = folder or shells.study.folder, None
         try:
+            made = production_for(shells, values, rates)
+            search = Search(place, made, shells.study.program, listener, shells.study.files)
             search.run(*limits)
             found = cls.found_by(search, shells)
         except KeyboardInterrupt:
@@ -306,12 +306,12 @@ def _digest(production: Production, period: Indices, goes: Ints) -> str:
     return found.hexdigest()
 
 
-def _stopped(search: Search, shells: Shells) -> SearchStopped:
+def _stopped(search: Search | None, shells: Shells) -> SearchStopped:
     """What a search has once it was stopped, its schedule kept: it may have been stopped before it
-    kept that itself."""
+    kept that itself, or before it began."""
+    if search is None or search.plan is None:
+        return SearchStopped(Found(), "")
     made, plan = search.production, search.plan
-    if plan is None:
-        return SearchStopped(search.found, "")
     search.kept.keep_schedule(plan)
     found = replace(search.found, npv=made.npv(plan))
     return SearchStopped(found, _digest(made, made.of_blocks(plan), _goes_of(made, plan, shells)))
