@@ -24,6 +24,7 @@ from ..base.files import whole_file
 from ..base.next_command import command
 from ..base.shown_cells import texts_of
 from ..base.units import Units
+from ..base.usual_metals import unit_of
 from ..model.grade_tonnage import TITLE
 from ..plans.design import by_ids_of, has_points
 from ..plans.surface import of_dxf
@@ -273,7 +274,10 @@ def ground(study: Path, what: str) -> bytes:
     model = _kept_model(parts := parts_of_file(study))
     if model is None or parts.keys is None:
         raise PlanError("the table can't be read yet")
-    return _png(from_above(model, what, Units(**parts.keys.units).length))
+    metals = parts.economics.metals if parts.economics else ()
+    told = {metal.grade: metal.grade_unit for metal in metals}
+    unit = told.get(what) or unit_of(what) or ""
+    return _png(from_above(model, what, Units(**parts.keys.units).length, unit))
 
 
 def _png(figure: Any) -> bytes:

@@ -40,11 +40,13 @@ def _what_would_pay(made: Production) -> str:
 
 
 class _Left(NamedTuple):
-    """What of a pit stays in the ground: blocks of rock, tonnes, and what they are worth."""
+    """What of a pit stays in the ground: blocks of rock, tonnes, what they are worth, and whether
+    a year in which they are dug has a fixed cost, which that leaves out."""
 
     blocks: int
     tonnes: float
     worth: float
+    has_fixed_cost: bool
 
     def words(self, rock: Scale, currency: str) -> str:
         """It in words, its rock by this scale."""
@@ -52,6 +54,7 @@ class _Left(NamedTuple):
         return (
             f"{self.blocks:,} {stay} in the ground, {rock.said(self.tonnes)} worth"
             f" {currency} {self.worth:,.0f} undiscounted"
+            + (", before fixed costs" if self.has_fixed_cost else "")
         )
 
 
@@ -288,6 +291,7 @@ class Schedule:
             int(stays.sum()),
             float(tonnes[stays].sum()),
             float(study.priced.worth(THOUSAND)[stays].sum()),
+            self.production.terms.fixed_cost > 0,
         )
 
 

@@ -19,7 +19,7 @@ from ..base.kept_json import words_in
 from ..base.strange import Strange, rounded
 from ..base.units import PRICES
 from ..base.units_shown import amount_text, length_text, printed_scale
-from ..base.usual_metals import is_about_a_dollar, unit_of, usual_price
+from ..base.usual_metals import unit_of, units_a_dollar, usual_price
 from ..model.economics import Economics, Metal
 from ..model.grid import Grid
 from ..model.model import Model, TableKeys
@@ -48,6 +48,7 @@ _TIMES_USUAL = 8  # how many times a metal's usual price a price may be, or its 
 _LEAST_SELLING, _MOST_SELLING = 5e-4, 0.6  # of the price
 _LONGEST, _SHORTEST = 200, 0.01  # years that a mine takes
 _CHEAPEST, _DEAREST = 0.02, 0.3  # a year, that a mine's money is discounted by
+_OF_BOTH = ("mining_rate", "mill_rate", "discount")  # keys of [shells], and of [schedule] too
 _DEPTHS = ("depth", "prof", "profundidad", "profundidade", "profondeur", "tiefe", "teufe")
 # A region of such a name lies that way of the middle: as (east, north).
 _WAYS = {
@@ -118,6 +119,7 @@ def looks(model: Model, priced: Priced, plan: _Says) -> list[Strange]:
         *_of_cells(model, economics),
         *_of_grade_units(model, economics),
         *_of_prices(economics),
+        *_of_dollars(economics),
         *_of_selling(economics),
         *of_costs(model, priced, economics),
         # what may be dug, and be treated
@@ -129,6 +131,7 @@ def looks(model: Model, priced: Priced, plan: _Says) -> list[Strange]:
         *_of_idle_ways(priced, economics),
         *of_rates(model, priced, plan.rates),
         *_of_schedule_rates(model, priced, plan.values["schedule"], plan.rates),
+        *_of_two_rates(plan.values["schedule"], plan.rates),
         # walls, on which none of these hangs
         *_of_regions(model, plan.slopes),
         *_of_bearings(plan.slopes),
@@ -386,11 +389,30 @@ def _of_prices(economics: Economics) -> Iterator[Strange]:
             )
 
 
+def _of_dollars(economics: Economics) -> Iterator[Strange]:
+    """Prices in a currency that is worth less than a dollar, and nearer to the usual one in dollars
+    than to that in the currency."""
+    for metal in economics.metals:
+        currency, usual = metal.currency or economics.currency, usual_price(metal.name)
+        rate = units_a_dollar(currency)
+        if usual is None or rate is None or rate == 1:
+            continue
+        usual *= PRICES[metal.price_unit]
+        if usual / _TIMES_USUAL <= metal.price < usual * math.sqrt(rate):
+            at = f"metal {metal.name}" if metal.currency else "[economics]"
+            yield Strange(
+                f"{metal.name} costs {rounded(metal.price, 6)} {currency} a {metal.price_unit}",
+                f"about {rounded(usual * rate, 2)} is usual, and in dollars {rounded(usual)}",
+                f'price of {metal.name} in {currency}, or currency = "$" in {at}',
+                ("economics", METALS, metal.name, "price"),
+            )
+
+
 def _times_usual(metal: Metal, currency: str) -> dict[str, float]:
     """How many times the usual one a metal's price is, were it for each of the units; none where no
     usual price is known."""
     usual = usual_price(metal.name)  # of a gram
-    if usual is None or not metal.price or not is_about_a_dollar(currency):
+    if usual is None or not metal.price or units_a_dollar(currency) != 1:
         return {}
     return {unit: metal.price / (usual * grams) for unit, grams in PRICES.items()}
 
@@ -544,6 +566,31 @@ def _of_schedule_rates(
         if isinstance(rate, (list, tuple)):
             said = f"{name}, {what}," if name == "process_rates" else name
             yield from _of_years(rate, said, ("schedule", name))
+
+
+def _texts(rates: Any) -> str:
+    """A rate, or those of the years."""
+    return ", ".join(rounded(rate, 6) for rate in np.atleast_1d(rates).tolist())
+
+
+def _of_two_rates(terms: Mapping[str, Any], rates: Mapping[str, Any]) -> Iterator[Strange]:
+    """Rates and a discount that [schedule] has otherwise than [shells]; of rates by year none of
+    which is that."""
+    told, other = terms.get("process_rates") or {}, rates.get("process_rates") or {}
+    asked = [(name, terms.get(name), rates.get(name)) for name in _OF_BOTH]
+    asked += [(f"the rate of {name}", told[name], other.get(name)) for name in told]
+    found = [
+        f"{name} is {_texts(own)} in [schedule], and {_texts(of_pits)} for the pits"
+        for name, own, of_pits in asked
+        if None not in (own, of_pits) and not np.isin(of_pits, own)
+    ]
+    if found:
+        yield Strange(
+            "; ".join(found),
+            "the best and the worst case of the pits can't be held against the plan by years then",
+            "the same rates and discount in [shells], or none in [schedule]",
+            ("schedule",),
+        )
 
 
 def _of_years(rates: Sequence[float], name: str, key: KeyPath) -> Iterator[Strange]:
