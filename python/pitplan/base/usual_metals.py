@@ -135,8 +135,9 @@ def units_a_dollar(currency: str) -> float | None:
     """About how many units of a currency a dollar is worth; None where that isn't known. It is 1
     where what is usual in dollars is usual in the currency.
 
-    >>> units_a_dollar("A$"), units_a_dollar(" EUR"), units_a_dollar("CLP"), units_a_dollar("Kc")
+    >>> units_a_dollar("A$"), units_a_dollar(" EUR"), units_a_dollar("CLP$"), units_a_dollar("Kc")
     (1.0, 1.0, 950, None)
     """
     name = currency.strip()
-    return _A_DOLLAR.get(name.upper()) or (1.0 if _DOLLARS.fullmatch(name) else None)
+    rate = _A_DOLLAR.get(name.upper()) or _A_DOLLAR.get(name.upper().removesuffix("$"))
+    return rate or (1.0 if _DOLLARS.fullmatch(name) else None)

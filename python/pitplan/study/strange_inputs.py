@@ -23,7 +23,7 @@ from ..base.usual_metals import unit_of, units_a_dollar, usual_price
 from ..model.economics import Economics, Metal
 from ..model.grid import Grid
 from ..model.model import Model, TableKeys
-from .pit_by_pit import YEARS
+from .pit_by_pit import YEARS, Rates
 from .strange_costs import of_costs
 from .strange_worths import of_forbid, of_tonnes, of_worths
 from ..table.column_names import AIR, columns_with, misnamed, said_of_misnamed
@@ -48,7 +48,6 @@ _TIMES_USUAL = 8  # how many times a metal's usual price a price may be, or its 
 _LEAST_SELLING, _MOST_SELLING = 5e-4, 0.6  # of the price
 _LONGEST, _SHORTEST = 200, 0.01  # years that a mine takes
 _CHEAPEST, _DEAREST = 0.02, 0.3  # a year, that a mine's money is discounted by
-_OF_BOTH = ("mining_rate", "mill_rate", "discount")  # keys of [shells], and of [schedule] too
 _DEPTHS = ("depth", "prof", "profundidad", "profundidade", "profondeur", "tiefe", "teufe")
 # A region of such a name lies that way of the middle: as (east, north).
 _WAYS = {
@@ -568,29 +567,32 @@ def _of_schedule_rates(
             yield from _of_years(rate, said, ("schedule", name))
 
 
-def _texts(rates: Any) -> str:
-    """A rate, or those of the years."""
-    return ", ".join(rounded(rate, 6) for rate in np.atleast_1d(rates).tolist())
-
-
 def _of_two_rates(terms: Mapping[str, Any], rates: Mapping[str, Any]) -> Iterator[Strange]:
-    """Rates and a discount that [schedule] has otherwise than [shells]; of rates by year none of
-    which is that."""
+    """Rates and a discount of [schedule] that the discounted cases of the pits don't have; of rates
+    by year none of which is theirs."""
     told, other = terms.get("process_rates") or {}, rates.get("process_rates") or {}
-    asked = [(name, terms.get(name), rates.get(name)) for name in _OF_BOTH]
+    asked = [(name, terms.get(name), rates.get(name)) for name in ("mining_rate", "mill_rate")]
+    asked.append(("discount", terms.get("discount"), rates.get("discount", Rates().discount)))
     asked += [(f"the rate of {name}", told[name], other.get(name)) for name in told]
     found = [
         f"{name} is {_texts(own)} in [schedule], and {_texts(of_pits)} for the pits"
         for name, own, of_pits in asked
-        if None not in (own, of_pits) and not np.isin(of_pits, own)
+        if own is not None and (of_pits is None or not np.isin(of_pits, own))
     ]
     if found:
         yield Strange(
             "; ".join(found),
             "the best and the worst case of the pits can't be held against the plan by years then",
-            "the same rates and discount in [shells], or none in [schedule]",
+            "the same rates and discount for both, or none in [schedule]",
             ("schedule",),
         )
+
+
+def _texts(rates: Any) -> str:
+    """A rate, or those of the years."""
+    if rates is None:
+        return "none"
+    return ", ".join(rounded(rate, 6) for rate in np.atleast_1d(rates).tolist())
 
 
 def _of_years(rates: Sequence[float], name: str, key: KeyPath) -> Iterator[Strange]:

@@ -8,7 +8,7 @@ import pytest
 from mines import below, table, written_study
 from pitplan.model.economics import Economics, Metal
 from pitplan.study.check import check
-from pitplan.study.strange_inputs import _of_dollars
+from pitplan.study.strange_inputs import _of_dollars, _of_two_rates
 from processes import TOP
 from slips import STUDY, cell, slipped
 
@@ -356,6 +356,25 @@ def test_low_prices_in_another_currency_are_none_in_dollars(currency, prices):
     )
     economics = Economics(metals=(copper, gold), mining=2.0, processing=9.0, currency=currency)
     assert list(_of_dollars(economics)) == []
+
+
+@pytest.mark.parametrize(
+    "terms, rates, said",
+    [
+        ({"mill_rate": [0, 5e5], "mining_rate": 1e6}, {"mill_rate": 5e5, "mining_rate": 1e6}, None),
+        ({}, {"mill_rate": 5e5}, None),
+        ({"discount": 0.1}, {}, None),  # which is that of pits, too, where nothing is said
+        ({"mining_rate": 1e6}, {}, "mining_rate is 1,000,000 in [schedule], and none for the pits"),
+        (
+            {"process_rates": {"leach": 2e5}},
+            {"process_rates": {"mill": 5e5, "leach": 1e5}},
+            "the rate of leach is 200,000 in [schedule], and 100,000 for the pits",
+        ),
+    ],
+)
+def test_rates_of_plan_and_pits_are_held_beside_each_other(terms, rates, said):
+    found = [str(look) for look in _of_two_rates(terms, rates)]
+    assert [look.partition(";")[0] for look in found] == ([said] if said else [])
 
 
 CAUSES = [  # a slip, what is said of it, and of what comes of it
