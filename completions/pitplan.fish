@@ -59,7 +59,7 @@ complete -c pitplan -n '__fish_seen_subcommand_from phases' -s h -l help -d 'Sho
 complete -c pitplan -n __fish_use_subcommand -a schedule -d 'Plan by years'
 complete -c pitplan -n '__fish_seen_subcommand_from schedule' -F
 complete -c pitplan -n '__fish_seen_subcommand_from schedule' -l gap -x -d 'End within so many percent of the bound'
-complete -c pitplan -n '__fish_seen_subcommand_from schedule' -l minutes -x -d 'End after so many minutes'
+complete -c pitplan -n '__fish_seen_subcommand_from schedule' -l minutes -x -d 'End the search after so many minutes, once it has a schedule and a first bound'
 complete -c pitplan -n '__fish_seen_subcommand_from schedule' -l mining-width -x -d 'The least width that machines need, in the unit of the coordinates'
 complete -c pitplan -n '__fish_seen_subcommand_from schedule' -s h -l help -d 'Show this message and exit'
 complete -c pitplan -n __fish_use_subcommand -a export -d 'Write the pits for CAD (dxf), ParaView (vtu), GIS (gpkg) and any other program (csv), in true coordinates'

@@ -68,7 +68,7 @@ _pitplan() {
             '--widen[Make each pushback this wide, in the unit of the coordinates, by blocks of the next pit that it takes in, or that it leaves for it]:widen: ' \
             '-h[Show this message and exit]' '--help[Show this message and exit]' '*:file:_files' ;;
         schedule) _arguments '--gap[End within so many percent of the bound]:gap: ' \
-            '--minutes[End after so many minutes]:minutes: ' \
+            '--minutes[End the search after so many minutes, once it has a schedule and a first bound]:minutes: ' \
             '--mining-width[The least width that machines need, in the unit of the coordinates]:mining-width: ' \
             '-h[Show this message and exit]' '--help[Show this message and exit]' '*:file:_files' ;;
         export) _arguments '--to[Any of dxf, vtu, csv, gpkg, minelib, with commas]:to: ' \

@@ -110,9 +110,9 @@ OF_PERIODS = {
     "lag": whole_to(1, MOST_PERIODS),
 }
 SOLD = Kind(
-    "an amount in quotes, as pitplan writes it",
+    "an amount in quotes, as pitplan writes it, with no 0 at the end of its decimals",
     lambda value: isinstance(value, str)
-    and re.fullmatch(r"-?(0|[1-9][0-9]{0,59})(\.[0-9]{1,20})?", value) is not None,
+    and re.fullmatch(r"-?(?:0|[1-9][0-9]{0,59})(?:\.[0-9]{0,19}[1-9])?", value) is not None,
 )
 OF_TERMS = {
     "sink": Kind(

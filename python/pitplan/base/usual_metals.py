@@ -62,6 +62,12 @@ _KNOWN = METALS | {found[0]: found for found in METALS.values()}
 _KNOWN |= {word: _KNOWN[name] for word, name in _NAMES.items()}
 # currencies in which a usual price or cost in dollars is about its number
 _DOLLARS = re.compile(r"[A-Z]{0,3}\$|USD|AUD|CAD|EUR|GBP|€|£")
+# About how many units of a currency a dollar is worth, of those in which that holds for decades.
+_A_DOLLAR = {
+    **{"CLP": 950, "COP": 4000, "PEN": 3.7, "S/": 3.7, "S/.": 3.7, "MXN": 18, "MX$": 18},
+    **{"BRL": 5.5, "R$": 5.5, "ZAR": 18, "R": 18, "XOF": 600, "TZS": 2500, "CNY": 7},
+    **{"INR": 85, "IDR": 16_000, "PHP": 57, "KZT": 480, "MNT": 3400, "RUB": 90},
+}
 # metals whose price is known about
 _STEADY = (
     "copper",
@@ -125,11 +131,13 @@ def usual_price(metal: str) -> float | None:
     )
 
 
-def is_about_a_dollar(currency: str) -> bool:
-    """Whether a unit of a currency is worth about a dollar, so that what is usual in dollars is usual
-    in it.
+def units_a_dollar(currency: str) -> float | None:
+    """About how many units of a currency a dollar is worth; None where that isn't known. It is 1
+    where what is usual in dollars is usual in the currency.
 
-    >>> is_about_a_dollar("A$"), is_about_a_dollar(" EUR"), is_about_a_dollar("CLP")
-    (True, True, False)
+    >>> units_a_dollar("A$"), units_a_dollar(" EUR"), units_a_dollar("CLP$"), units_a_dollar("Kc")
+    (1.0, 1.0, 950, None)
     """
-    return _DOLLARS.fullmatch(currency.strip()) is not None
+    name = currency.strip()
+    rate = _A_DOLLAR.get(name.upper()) or _A_DOLLAR.get(name.upper().removesuffix("$"))
+    return rate or (1.0 if _DOLLARS.fullmatch(name) else None)

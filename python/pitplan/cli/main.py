@@ -120,8 +120,8 @@ def _run() -> None:
     except PlanError as error:
         tell(error)
         sys.exit(exit_status(error))
-    except (KeyboardInterrupt, click.Abort):
-        err.print(STOPPED)
+    except (KeyboardInterrupt, click.Abort) as stopped:  # of click with what it caught as its cause
+        err.print(getattr(stopped.__cause__ or stopped, "said", STOPPED))
         sys.exit(ENDED)
     except MemoryError:
         err.print(

@@ -51,7 +51,13 @@ def schedule(
         0.1, "--gap", min=0.0, help="End within so many percent of the bound."
     ),
     minutes: float = typer.Option(
-        30.0, "--minutes", min=0.0, help="End after so many minutes; what is found is kept."
+        30.0,
+        "--minutes",
+        min=0.0,
+        help=(
+            "End the search after so many minutes, once it has a schedule and a first bound; what is"
+            " found is kept."
+        ),
     ),
     mining_width: Optional[float] = typer.Option(
         None,
@@ -98,17 +104,18 @@ def _words(found: Found) -> str:
 
 @contextmanager
 def _stopped(shells: Shells, limits: Limits, basis: Mapping[str, Any]) -> Iterator[None]:
-    """After ctrl-C says how far the search is and, where it has a schedule, writes schedule.json;
-    then what shows another schedule is put out of the way."""
+    """After ctrl-C, where the search has a schedule, says how far it is and writes schedule.json; then
+    what shows another schedule is put out of the way."""
     from ..schedule.search_ends import STOPPED, End, SearchStopped
 
     try:
         yield
     except SearchStopped as stopped:
-        end = End(STOPPED, *limits)
-        warn(f"{end.words}: {_words(stopped.found)}")
         if stopped.digest:
-            warn(f"its table: {command('schedule', shells.study.named, '--minutes', '0')}")
+            end = End(STOPPED, *limits)
+            warn(f"{end.words}: {_words(stopped.found)}")
+            when = "" if stopped.found.bound is not None else ", once there is a first bound"
+            warn(f"its table{when}: {command('schedule', shells.study.named, '--minutes', '0')}")
             show_schedule(shells.study, stopped.digest)
             _write_facts(shells, stopped.found.facts | end.facts | basis)
         raise

@@ -24,6 +24,7 @@ from ..base.files import whole_file
 from ..base.next_command import command
 from ..base.shown_cells import texts_of
 from ..base.units import Units
+from ..base.usual_metals import unit_of
 from ..model.grade_tonnage import TITLE
 from ..plans.design import by_ids_of, has_points
 from ..plans.surface import of_dxf
@@ -39,7 +40,7 @@ from ..study.study_file import parts_of_file, read_study_file
 from ..table.column_lines import line_of_column
 from ..table.column_names import PLACES, columns_found, nearest
 from ..table.csv_text import SAY_ENCODING, dialect_of, head_of, names_of, numbers_among
-from ..table.csv_text import read_frame, rows_about
+from ..table.csv_text import numbers_and_grids, read_frame, rows_about
 from ..views import slope_rose
 from ..views.ground import from_above
 from .folder import stamp
@@ -87,7 +88,8 @@ def _asked_for(
     for it in errors:
         if it["column"] in set(found.values()) - set(numbers):  # the choice is wrong, not the cells
             it["try"] = "choose another column in its place"
-    free = [name for name in numbers if name not in found.values()]
+    grids = numbers_and_grids(table, dialect)
+    free = {name: is_grid for name, is_grid in grids.items() if name not in found.values()}
     guessed = {key: name for key, name in nearest(missing, free).items() if name in header}
     known = columns_found(header, {})
     return {"errors": errors, "header": header, "known": known, "found": found, "near": guessed}
@@ -272,7 +274,10 @@ def ground(study: Path, what: str) -> bytes:
     model = _kept_model(parts := parts_of_file(study))
     if model is None or parts.keys is None:
         raise PlanError("the table can't be read yet")
-    return _png(from_above(model, what, Units(**parts.keys.units).length))
+    metals = parts.economics.metals if parts.economics else ()
+    told = {metal.grade: metal.grade_unit for metal in metals}
+    unit = told.get(what) or unit_of(what) or ""
+    return _png(from_above(model, what, Units(**parts.keys.units).length, unit))
 
 
 def _png(figure: Any) -> bytes:

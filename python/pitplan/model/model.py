@@ -33,6 +33,7 @@ from ..table.csv_text import (
     not_estimated,
     number_column,
     numbers_among,
+    numbers_and_grids,
     read_frame,
 )
 from ..base.units import Units
@@ -264,7 +265,9 @@ def read_with(path: Path, keys: TableKeys) -> Model:
         table, dialect = path.name, keys.dialect(path)
         header = names_of(head_of(path, dialect.encoding, 1)[0], dialect.separator)
     with about("model", "columns"):
-        names = which_columns(header, keys.columns, table)
+        names = which_columns(
+            header, keys.columns, table, numbers=lambda: numbers_and_grids(path, dialect)
+        )
     frame = read_frame(path, dialect, [names[key] for key in ("id", "rock") if key in names])
     names = with_few_classes(names, keys.columns, lambda name: int(frame[name].nunique()))
     notes = ["columns: " + ", ".join(f"{key} = {name}" for key, name in names.items())]

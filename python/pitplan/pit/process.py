@@ -136,7 +136,7 @@ class Process:
             ear = threading.Thread(target=_listen, args=(run, lines, on_line), daemon=True)
             ear.start()
             try:
-                with _ending(run, seconds) as late:
+                with ending(run, seconds) as late:
                     text, status = _said_by(run, fed or ())
             finally:
                 ear.join()
@@ -237,8 +237,9 @@ def _said_by(run: subprocess.Popen[bytes], pieces: Iterable[bytes]) -> tuple[str
 
 
 @contextmanager
-def _ending(run: subprocess.Popen[bytes], seconds: float | None) -> Iterator[threading.Event]:
-    """Ends a run after some seconds, unless it is done before; the event says that it did."""
+def ending(run: subprocess.Popen[bytes], seconds: float | None) -> Iterator[threading.Event]:
+    """Ends a run, the first of a process group, after some seconds, unless it is done before; the
+    event says that it did."""
     late = threading.Event()
 
     def end() -> None:

@@ -363,10 +363,13 @@ class Pit(Process):
             raise NotAccepted(f"pit solve: {said.strip()}", try_this=hint_of(said))
         return True
 
-    def best_of(self, mine: Periodic) -> None:
-        """Writes the certificate of a mine's best pit, which it names."""
+    def best_of(self, mine: Periodic, seconds: float | None = None) -> None:
+        """Writes the certificate of a mine's best pit, which it names. Raises OutOfTime where that
+        takes longer than some seconds."""
         assert mine.pit is not None
-        self.solved([*mine.files.words(), "--factor", _FULL_PRICE], mine.pit)
+        words: list[Word] = [*mine.files.words(), "--factor", _FULL_PRICE]
+        if not self.solved(words, mine.pit, seconds):
+            raise OutOfTime
 
     def schedule(self, mine: Periodic, schedule: Path, best: Path | None = None) -> Scheduled:
         """Lets `pit schedule` judge a schedule at the full price, with the certificate of a bound

@@ -32,13 +32,13 @@ class BlockTexts(Bounds):
         super().__init__(production)
         self.files = files
 
-    def written(self, program: Pit, folder: Path) -> Periodic:
+    def written(self, program: Pit, folder: Path, seconds: float | None = None) -> Periodic:
         """What blocks use and wait for, and the certificate of the best pit."""
         found = Periodic(
             self.files, folder / "uses.blocks", folder / "periods.toml", folder / "pit.cert"
         )
         if not found.uses.exists():
-            program.best_of(found)
+            program.best_of(found, seconds)
             with whole_file(found.uses) as part:
                 write_numbers(part, {f"{at}": each for at, each in enumerate(self.rows())})
         return found

@@ -2,6 +2,7 @@
 and periods at some multipliers, and `pit bound` says the bound by it."""
 from __future__ import annotations
 
+import time
 from abc import ABC, abstractmethod
 from decimal import Decimal
 from pathlib import Path
@@ -10,6 +11,7 @@ from typing import NamedTuple
 import numpy as np
 
 from ..base.arrays import Bools, Ints
+from ..pit.process import OutOfTime, left_until
 from ..pit.program import Periodic, Pit
 from .destinations import MULTIPLIERS_IN_ONE
 from .production import Production
@@ -70,16 +72,19 @@ class Bounds(ABC):
         self.production, self.count = production, production.units
 
     @abstractmethod
-    def written(self, program: Pit, folder: Path) -> Periodic:
-        """Its files in a folder, all but that of its periods; those that are there stay."""
+    def written(self, program: Pit, folder: Path, seconds: float | None = None) -> Periodic:
+        """Its files in a folder, all but that of its periods; those that are there stay. Raises
+        OutOfTime where `pit` takes longer for one of them."""
 
     @abstractmethod
     def periods(self, multipliers: Ints) -> str:
         """The text of its periods."""
 
-    def mine(self, program: Pit, folder: Path, multipliers: Ints) -> Periodic:
-        """The mine with its periods, at some multipliers."""
-        found = self.written(program, folder)
+    def mine(
+        self, program: Pit, folder: Path, multipliers: Ints, seconds: float | None = None
+    ) -> Periodic:
+        """The mine with its periods, at some multipliers; as `written`."""
+        found = self.written(program, folder, seconds)
         found.periods.write_text(self.periods(multipliers))
         return found
 
@@ -93,9 +98,13 @@ class Bounds(ABC):
     def closed(
         self, program: Pit, folder: Path, multipliers: Ints, seconds: float | None
     ) -> Closed | None:
-        """The richest pit at some multipliers; None where finding it takes longer."""
-        mine = self.mine(program, folder, multipliers)
-        pit = program.bound(mine, folder / CERTIFICATE, seconds)
+        """The richest pit at some multipliers; None where finding it takes longer, files and all."""
+        ends = None if seconds is None else time.monotonic() + seconds
+        try:
+            mine = self.mine(program, folder, multipliers, seconds)
+        except OutOfTime:
+            return None
+        pit = program.bound(mine, folder / CERTIFICATE, left_until(ends))
         if pit is None:
             return None
         dug = np.zeros(self.count * self.production.periods, bool)

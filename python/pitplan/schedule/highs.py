@@ -24,6 +24,7 @@ from scipy.sparse import csr_matrix
 from ..base.arrays import Floats
 from ..base.errors import MachineError
 from ..base.interrupts import raise_if_asked
+from ..pit.process import ending
 
 _PACKAGE = str(Path(__file__).resolve().parents[2])  # the folder that has pitplan
 _CODE = f"import sys; sys.path.insert(0, {_PACKAGE!r}); from pitplan.schedule.highs import serve; serve()"
@@ -34,6 +35,8 @@ _FAILED = {
 }
 _NO_ANSWER = 4  # SciPy's status of a program that came to no end
 _MOST_FAILURES = 5  # of whole shares, one after the other
+_AT_LIMIT = 1  # SciPy's status where a limit was reached
+_GRACE = 3.0  # seconds after a time limit, which HiGHS needn't keep, when its process is ended
 _LOCK = threading.Lock()
 _failures = 0  # since the last answer
 _idle: list[_Solver] = []
@@ -203,23 +206,31 @@ class _Solver:
 
 
 def _solved(words: dict[str, Any], gains: Floats, table: Any, limits: Floats) -> Answer:
-    """What a process gives, which is free for others then; one that gave nothing is ended."""
+    """What a process gives, which is free for others then; one that gave nothing is ended, and so is
+    one that goes on after its time limit, as crossover does for minutes."""
     begin(1)
     with _LOCK:
         raise_if_asked()
         process = _idle.pop() if _idle else _Solver()
         _busy.add(process)
+    limit = words["options"].get("time_limit")
     try:
-        found = process.answer(words, gains, table, limits)
+        with ending(process.run, None if limit is None else limit + _GRACE) as late:
+            found = process.answer(words, gains, table, limits)
     except BaseException as error:
         process.end()
         if not isinstance(error, (EOFError, OSError)):
             raise
         raise_if_asked()
+        if late.is_set():
+            return Answer(_AT_LIMIT, "it didn't keep its time limit", None, np.zeros(0))
         raise _how_it_ended(process.run.returncode) from None
     finally:
         with _LOCK:
             _busy.discard(process)
+    if late.is_set():
+        process.end()
+        return found
     with _LOCK:
         _idle.append(process)
     return found

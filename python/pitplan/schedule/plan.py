@@ -22,7 +22,7 @@ from .search_ends import End, Limits, SearchStopped, gap_text
 from .pit_schedule import judged
 from .destinations import Timetable
 from .production import Production, feeds_of, production_of
-from .search import Listener, Search
+from .search import Found, Listener, Search
 from .terms import MILLION, refuse_no_full_price, terms_of
 
 if TYPE_CHECKING:
@@ -40,11 +40,13 @@ def _what_would_pay(made: Production) -> str:
 
 
 class _Left(NamedTuple):
-    """What of a pit stays in the ground: blocks of rock, tonnes, and what they are worth."""
+    """What of a pit stays in the ground: blocks of rock, tonnes, what they are worth, and whether
+    a year in which they are dug has a fixed cost, which that leaves out."""
 
     blocks: int
     tonnes: float
     worth: float
+    has_fixed_cost: bool
 
     def words(self, rock: Scale, currency: str) -> str:
         """It in words, its rock by this scale."""
@@ -52,6 +54,7 @@ class _Left(NamedTuple):
         return (
             f"{self.blocks:,} {stay} in the ground, {rock.said(self.tonnes)} worth"
             f" {currency} {self.worth:,.0f} undiscounted"
+            + (", before fixed costs" if self.has_fixed_cost else "")
         )
 
 
@@ -97,8 +100,9 @@ class Schedule:
 
     @property
     def npv(self) -> Decimal:
-        """What it is worth: what `pit schedule` says, less the fixed costs."""
-        return Decimal(self.judged.npv) - self.fixed
+        """What it is worth: what `pit schedule` says, less the fixed costs; without zeros at its end,
+        as `pit` writes amounts."""
+        return (Decimal(self.judged.npv) - self.fixed).normalize()
 
     @property
     def count(self) -> int:
@@ -157,10 +161,10 @@ class Schedule:
         SearchStopped
             After ctrl-C, with what was found kept.
         """
-        made = production_for(shells, values, rates)
-        place = folder or shells.study.folder
-        search = Search(place, made, shells.study.program, listener, shells.study.files)
+        place, search = folder or shells.study.folder, None
         try:
+            made = production_for(shells, values, rates)
+            search = Search(place, made, shells.study.program, listener, shells.study.files)
             search.run(*limits)
             found = cls.found_by(search, shells)
         except KeyboardInterrupt:
@@ -287,6 +291,7 @@ class Schedule:
             int(stays.sum()),
             float(tonnes[stays].sum()),
             float(study.priced.worth(THOUSAND)[stays].sum()),
+            self.production.terms.fixed_cost > 0,
         )
 
 
@@ -305,12 +310,12 @@ def _digest(production: Production, period: Indices, goes: Ints) -> str:
     return found.hexdigest()
 
 
-def _stopped(search: Search, shells: Shells) -> SearchStopped:
+def _stopped(search: Search | None, shells: Shells) -> SearchStopped:
     """What a search has once it was stopped, its schedule kept: it may have been stopped before it
-    kept that itself."""
+    kept that itself, or before it began."""
+    if search is None or search.plan is None:
+        return SearchStopped(Found(), "")
     made, plan = search.production, search.plan
-    if plan is None:
-        return SearchStopped(search.found, "")
     search.kept.keep_schedule(plan)
     found = replace(search.found, npv=made.npv(plan))
     return SearchStopped(found, _digest(made, made.of_blocks(plan), _goes_of(made, plan, shells)))

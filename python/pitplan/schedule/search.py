@@ -177,7 +177,8 @@ class Search:
         self.end = End(KILLED, gap, seconds)
         self.kept.keep_end(self.end)  # whatever ends it before it says why
         try:
-            why = self.looked(gap, seconds)
+            with self.sorting.ending(seconds):
+                why = self.looked(gap, seconds)
             if why != GAP:  # else what was asked for is there
                 self.take(self.first)
             self.ended(why)
@@ -194,8 +195,7 @@ class Search:
 
     def looked(self, gap: float, seconds: float) -> str:
         """Searches, and gives why it ended."""
-        ends = time.monotonic() + seconds
-        self.sorting.ends = ends
+        ends = self.sorting.ends
         highs.begin(1)  # which takes a while, before it is needed
         if self.plan is None:
             self.tell("first schedules, one pit of the series after the other")

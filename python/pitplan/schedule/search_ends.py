@@ -6,7 +6,7 @@ from dataclasses import dataclass
 from decimal import Decimal
 from typing import TYPE_CHECKING, Any, NamedTuple
 
-from ..base import kept_json
+from ..base import errors, kept_json
 from ..base.units_shown import counted
 
 if TYPE_CHECKING:
@@ -54,6 +54,16 @@ class SearchStopped(KeyboardInterrupt):
     def __init__(self, found: Found, digest: str) -> None:
         super().__init__(found, digest)
         self.found, self.digest = found, digest
+
+    @property
+    def said(self) -> str:
+        """What is kept, and what the same command does next."""
+        if self.digest:
+            return errors.STOPPED
+        return (
+            "stopped before there was a schedule: nothing of this run is kept, and the same command"
+            " begins again"
+        )
 
 
 class Limits(NamedTuple):

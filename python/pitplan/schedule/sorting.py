@@ -4,9 +4,11 @@ between neighbouring periods."""
 from __future__ import annotations
 
 import math
+import threading
 import time
 from collections.abc import Callable, Iterable, Iterator
 from concurrent.futures import ThreadPoolExecutor
+from contextlib import contextmanager
 from typing import TypeVar
 
 import numpy as np
@@ -70,9 +72,27 @@ class Sorting:
             production.units - production.gates,
             production.weights * production.terms.fixed_cost,
             production.capacities[0],
+            np.zeros(1, np.int64),
         )
         self.order = production.order
         self.by_gain = production.millable.by_gain()
+
+    @contextmanager
+    def ending(self, seconds: float) -> Iterator[None]:
+        """Ends what makes a schedule better after some seconds: swaps within compiled loops too, of
+        which two thousand may take minutes."""
+        self.ends, self.mine.over[0] = time.monotonic() + seconds, 0
+        timer = threading.Timer(seconds, self.end)
+        timer.daemon = True
+        timer.start()
+        try:
+            yield
+        finally:
+            timer.cancel()
+
+    def end(self) -> None:
+        """Ends swaps that go on within compiled loops."""
+        self.mine.over[0] = 1
 
     @property
     def is_late(self) -> bool:
@@ -226,6 +246,7 @@ class Sorting:
                 return list(pool.map(swap, periods))
             except BaseException:
                 self.ends = -math.inf
+                self.end()
                 highs.stop()
                 pool.shutdown(wait=False, cancel_futures=True)
                 raise

@@ -338,7 +338,7 @@ def _means(mine: Mine) -> _Means:
 @compiled
 def swap_units(mine: Mine, plan: Plan, s: int, tries: int, seed: int, heat: Heat) -> _Swapped:
     """Tries so many swaps between period s and the next, or what isn't dug after the last, and takes
-    those that bring more, or by the temperature some that don't."""
+    those that bring more, or by the temperature some that don't; until the time is over."""
     np.random.seed(seed)
     lists, means = _lists_of(plan, s), _means(mine)
     here, there, sizes = lists.here, lists.there, lists.sizes
@@ -349,6 +349,8 @@ def swap_units(mine: Mine, plan: Plan, s: int, tries: int, seed: int, heat: Heat
     head, tail = np.empty(room, np.int64), np.empty(room, np.int64)
     looked, best = np.empty(room, np.int64), np.empty(room, np.int64)
     for _ in range(tries if len(here) else 0):
+        if mine.over[0]:
+            break
         # annealing goes further by many small swaps, and what gains alone by large ones
         halved = np.random.randint(_SIZES) if heat.mean else 0
         most = _MOST_OF_SWAP >> halved

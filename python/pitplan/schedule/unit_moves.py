@@ -14,7 +14,8 @@ class Mine(NamedTuple):
     """What moves and swaps read: rows of pairs both ways, by the slopes and by the sink rate, and of each
     unit its first period, its uses of shape (resources, units) and its value; from unit `gates` on
     they are gates. `opening` has what each period costs in which rock is dug, in the unit of values
-    times weights, and `rooms` what rock each has: one with less left is open."""
+    times weights, and `rooms` what rock each has: one with less left is open. `over` has one number,
+    which another thread makes 1 once the time is over: swaps look at it before each one."""
 
     first: Ints
     above: Ints
@@ -31,6 +32,7 @@ class Mine(NamedTuple):
     gates: int
     opening: Ints
     rooms: Ints
+    over: Ints
 
 
 class Plan(NamedTuple):

@@ -65,7 +65,7 @@ class UnitTexts(Bounds):
         self.ticks = int(self.clock.max(initial=0))
         self.count = units + self.ties + (self.ticks + 1 if self.ticks else 0)
 
-    def written(self, program: Pit, folder: Path) -> Periodic:
+    def written(self, program: Pit, folder: Path, seconds: float | None = None) -> Periodic:
         """What each block rests on, brings, costs and uses, and which others it waits for."""
         files = Files(folder / "units.blocks", folder / "units.toml", folder / "units.prec")
         if not files.blocks.exists():

@@ -28,6 +28,7 @@ from ..table.csv_text import (
     head_of,
     names_of,
     number_column,
+    numbers_and_grids,
     read_frame,
 )
 from ..table.formula import text_of
@@ -155,6 +156,7 @@ def look_at(
                 for word in ("--column", f"{key}={name}")
             ),
         ),
+        lambda: numbers_and_grids(table, dialect),
     )
     frame = read_frame(table, dialect, [names[key] for key in ("id", "rock") if key in names])
     names = with_few_classes(names, given or {}, lambda name: int(frame[name].nunique()))

@@ -11,9 +11,12 @@ from ..base.amounts import THOUSAND, Priced, Way
 from ..base.arrays import Bools, Floats
 from ..base.errors import KeyPath, toml_spelled
 from ..base.strange import Strange, rounded
-from ..base.usual_metals import is_about_a_dollar
+from ..base.usual_metals import units_a_dollar
 from ..model.economics import Amount, Economics
 from ..model.model import Model
+
+
+_ROOM = 2.0  # how far below the least a cost in another currency is taken for one in dollars
 
 
 class _Usual(NamedTuple):
@@ -28,6 +31,11 @@ class _Usual(NamedTuple):
     def is_off(self, cost: float) -> bool:
         """Whether such a cost is told."""
         return not self.least <= cost <= self.most
+
+    def is_in_dollars(self, cost: float, rate: float) -> bool:
+        """Whether a cost in a currency of which a dollar is worth so many units is one in dollars: far
+        below what is told there."""
+        return not self.is_off(cost) and cost < self.least * rate / _ROOM
 
     def meant(self, cost: float) -> Optional[float]:
         """The cost with its point elsewhere, where that is a usual one; else None.
@@ -73,11 +81,13 @@ class _Work(NamedTuple):
 
 
 def of_costs(model: Model, priced: Priced, economics: Economics) -> Iterator[Strange]:
-    """Work that costs nothing, or far more or less than is usual."""
+    """Work that costs nothing, or far more or less than is usual; in a currency that is worth far
+    less than a dollar what seems to be in dollars."""
     tonnes = model.blocks.tonnes.to_numpy(float)
     dug = (tonnes > 0) & ~priced.forbidden
     yield from _of_nothing(priced, dug, economics)
-    if not is_about_a_dollar(economics.currency):
+    rate = units_a_dollar(economics.currency)
+    if rate is None:
         return
     digging = priced.mining[dug] * float(priced.rounding) / tonnes[dug]
     key: KeyPath = ("economics", "mining")
@@ -90,7 +100,23 @@ def of_costs(model: Model, priced: Priced, economics: Economics) -> Iterator[Str
         place = said.label or "[economics]"
         work.append(_Work(what, _TREATING, said.cost, a_tonne, key, place))
     for each in work:
-        yield from _of_level(each, economics.currency, unit)
+        if rate > 1:
+            yield from _of_dollars(each, economics.currency, rate)
+        else:
+            yield from _of_level(each, economics.currency, unit)
+
+
+def _of_dollars(work: _Work, currency: str, rate: float) -> Iterator[Strange]:
+    """A tonne that costs in half of the blocks what is usual in dollars, in another currency."""
+    cost, usual = float(np.median(work.a_tonne)) if len(work.a_tonne) else 0.0, work.usual
+    if usual.is_in_dollars(cost, rate):
+        low, high = (rounded(each * rate, 2) for each in (usual.low, usual.high))
+        yield Strange(
+            f"{work.what} costs {rounded(cost)} {currency}",
+            f"{low} to {high} is usual, and in dollars {usual.low:g} to {usual.high:g}",
+            f'{work.key[-1]} in {work.place} in {currency}, or currency = "$"',
+            work.key,
+        )
 
 
 def _of_nothing(priced: Priced, dug: Bools, economics: Economics) -> Iterator[Strange]:

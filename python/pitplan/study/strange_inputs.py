@@ -19,11 +19,11 @@ from ..base.kept_json import words_in
 from ..base.strange import Strange, rounded
 from ..base.units import PRICES
 from ..base.units_shown import amount_text, length_text, printed_scale
-from ..base.usual_metals import is_about_a_dollar, unit_of, usual_price
+from ..base.usual_metals import unit_of, units_a_dollar, usual_price
 from ..model.economics import Economics, Metal
 from ..model.grid import Grid
 from ..model.model import Model, TableKeys
-from .pit_by_pit import YEARS
+from .pit_by_pit import YEARS, Rates
 from .strange_costs import of_costs
 from .strange_worths import of_forbid, of_tonnes, of_worths
 from ..table.column_names import AIR, columns_with, misnamed, said_of_misnamed
@@ -118,6 +118,7 @@ def looks(model: Model, priced: Priced, plan: _Says) -> list[Strange]:
         *_of_cells(model, economics),
         *_of_grade_units(model, economics),
         *_of_prices(economics),
+        *_of_dollars(economics),
         *_of_selling(economics),
         *of_costs(model, priced, economics),
         # what may be dug, and be treated
@@ -129,6 +130,7 @@ def looks(model: Model, priced: Priced, plan: _Says) -> list[Strange]:
         *_of_idle_ways(priced, economics),
         *of_rates(model, priced, plan.rates),
         *_of_schedule_rates(model, priced, plan.values["schedule"], plan.rates),
+        *_of_two_rates(plan.values["schedule"], plan.rates),
         # walls, on which none of these hangs
         *_of_regions(model, plan.slopes),
         *_of_bearings(plan.slopes),
@@ -386,11 +388,30 @@ def _of_prices(economics: Economics) -> Iterator[Strange]:
             )
 
 
+def _of_dollars(economics: Economics) -> Iterator[Strange]:
+    """Prices in a currency that is worth less than a dollar, and nearer to the usual one in dollars
+    than to that in the currency."""
+    for metal in economics.metals:
+        currency, usual = metal.currency or economics.currency, usual_price(metal.name)
+        rate = units_a_dollar(currency)
+        if usual is None or rate is None or rate == 1:
+            continue
+        usual *= PRICES[metal.price_unit]
+        if usual / _TIMES_USUAL <= metal.price < usual * math.sqrt(rate):
+            at = f"metal {metal.name}" if metal.currency else "[economics]"
+            yield Strange(
+                f"{metal.name} costs {rounded(metal.price, 6)} {currency} a {metal.price_unit}",
+                f"about {rounded(usual * rate, 2)} is usual, and in dollars {rounded(usual)}",
+                f'price of {metal.name} in {currency}, or currency = "$" in {at}',
+                ("economics", METALS, metal.name, "price"),
+            )
+
+
 def _times_usual(metal: Metal, currency: str) -> dict[str, float]:
     """How many times the usual one a metal's price is, were it for each of the units; none where no
     usual price is known."""
     usual = usual_price(metal.name)  # of a gram
-    if usual is None or not metal.price or not is_about_a_dollar(currency):
+    if usual is None or not metal.price or units_a_dollar(currency) != 1:
         return {}
     return {unit: metal.price / (usual * grams) for unit, grams in PRICES.items()}
 
@@ -544,6 +565,34 @@ def _of_schedule_rates(
         if isinstance(rate, (list, tuple)):
             said = f"{name}, {what}," if name == "process_rates" else name
             yield from _of_years(rate, said, ("schedule", name))
+
+
+def _of_two_rates(terms: Mapping[str, Any], rates: Mapping[str, Any]) -> Iterator[Strange]:
+    """Rates and a discount of [schedule] that the discounted cases of the pits don't have; of rates
+    by year none of which is theirs."""
+    told, other = terms.get("process_rates") or {}, rates.get("process_rates") or {}
+    asked = [(name, terms.get(name), rates.get(name)) for name in ("mining_rate", "mill_rate")]
+    asked.append(("discount", terms.get("discount"), rates.get("discount", Rates().discount)))
+    asked += [(f"the rate of {name}", told[name], other.get(name)) for name in told]
+    found = [
+        f"{name} is {_texts(own)} in [schedule], and {_texts(of_pits)} for the pits"
+        for name, own, of_pits in asked
+        if own is not None and (of_pits is None or not np.isin(of_pits, own))
+    ]
+    if found:
+        yield Strange(
+            "; ".join(found),
+            "the best and the worst case of the pits can't be held against the plan by years then",
+            "the same rates and discount for both, or none in [schedule]",
+            ("schedule",),
+        )
+
+
+def _texts(rates: Any) -> str:
+    """A rate, or those of the years."""
+    if rates is None:
+        return "none"
+    return ", ".join(rounded(rate, 6) for rate in np.atleast_1d(rates).tolist())
 
 
 def _of_years(rates: Sequence[float], name: str, key: KeyPath) -> Iterator[Strange]:

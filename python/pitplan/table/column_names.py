@@ -295,6 +295,7 @@ def which_columns(
     given: Mapping[str, str],
     table: str,
     typed: Callable[[dict[str, str]], str] | None = None,
+    numbers: Callable[[], Mapping[str, bool]] | None = None,
 ) -> dict[str, str]:
     """The table's own name for each of `USUAL`, where it has one.
 
@@ -307,6 +308,8 @@ def which_columns(
     typed : callable, optional
         How to name columns of x, y or z, where it isn't by study.toml: gets the nearest of the
         table's names for each that is missing.
+    numbers : callable, optional
+        What `nearest` asks for: which names may be offered. Default: all.
 
     Raises
     ------
@@ -337,7 +340,8 @@ def which_columns(
                 table=table,
                 try_this="a first line with a name for each column, and no line above it",
             )
-        near = nearest(missing, [name for name in header if name not in found.values()])
+        may_be = numbers() if numbers else dict.fromkeys(header, True)
+        near = nearest(missing, {n: may_be[n] for n in may_be if n not in found.values()})
         raise PlanError(
             f"no column is known as {', '.join(missing)}; the header line has {', '.join(header)}",
             table=table,
@@ -420,34 +424,43 @@ def said_of_misnamed(columns: Mapping[str, str], wrong: Mapping[str, str]) -> tu
     )
 
 
-def nearest(missing: Sequence[str], names: Sequence[str]) -> dict[str, str]:
+def nearest(missing: Sequence[str], names: Mapping[str, bool]) -> dict[str, str]:
     """For each of x, y and z the name that looks most like one of its usual names, each name once;
-    NAME where none does.
+    two points where none does. `names` are those of columns of numbers, each with whether these are
+    spaced as a grid: one without x, y or z as a word of its own isn't offered else.
 
-    >>> nearest(["x", "y"], ["LENGTH", "Y_LOCAL", "X_LOCAL"])
+    >>> nearest(["x", "y"], {"EASTINGS_": False, "Y_LOCAL": True, "X_LOCAL": False})
     {'x': 'X_LOCAL', 'y': 'Y_LOCAL'}
-    >>> nearest(["y", "z"], ["NSR", "R", "NORDWERT"])
-    {'y': 'NORDWERT', 'z': 'NAME'}
+    >>> nearest(["y", "z"], {"NSR": True, "R": True, "NORDWERT": True})
+    {'y': 'NORDWERT', 'z': '..'}
     """
     found: dict[str, str] = {}
     for key in missing:
-        free = [(_alike(key, name), name) for name in names if name not in found.values()]
+        free = [
+            (_alike(key, name, is_grid), name)
+            for name, is_grid in names.items()
+            if name not in found.values()
+        ]
         best = max(free, default=(0.0, ""), key=lambda of: of[0])
-        found[key] = best[1] if best[0] >= _ALIKE else "NAME"
+        found[key] = best[1] if best[0] >= _ALIKE else ".."
     return found
 
 
-def _alike(key: str, name: str) -> float:
+def _alike(key: str, name: str, is_grid: bool) -> float:
     """How much a name looks like the usual names of a key, from 0 to 1; x, y or z as a word of its
-    own makes it one of that axis."""
+    own makes it one of that axis, and else its column has to be spaced as a grid."""
     word = name.lower()
     letters = set(re.split(r"[^a-z0-9]+", word)) & set(PLACES)
-    if letters:
+    if letters or not is_grid:
         return 1.0 if key in letters else 0.0
-    # of two letters or one nothing is like another, unless it is of x, y or z: NSR isn't like NS
+    # of two letters or one nothing is like another: NSR isn't like NS; nor is a name without x
+    # like one that says x by that letter alone: MERID isn't like mid_x
     telling = [
         usual
         for usual in USUAL[key]
-        if sum(map(str.isalpha, usual)) > 2 or set(usual) & set(PLACES)
+        if (axis := set(usual) & set(PLACES)) <= set(word)
+        and (axis or sum(map(str.isalpha, usual)) > 2)
     ]
-    return max(difflib.SequenceMatcher(None, usual, word).ratio() for usual in telling)
+    return max(
+        (difflib.SequenceMatcher(None, usual, word).ratio() for usual in telling), default=0.0
+    )

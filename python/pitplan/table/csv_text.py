@@ -15,6 +15,7 @@ from collections import Counter
 from collections.abc import Collection, Iterator, Mapping, Sequence
 from contextlib import suppress
 from dataclasses import dataclass
+from itertools import zip_longest
 from pathlib import Path
 from typing import IO, Any, cast
 
@@ -47,6 +48,8 @@ _TABLES = (".csv", ".csv.gz", ".txt", ".dat", ".asc")  # how files are called th
 _ALIKE = 0.6  # from 0 to 1: names of files that are less alike aren't offered
 _MOST_NAMES = 6  # names of files that are told
 _MOST_WORDS = 1000  # different cells that a column of codes has at most; one of numbers with a mark among them has more
+_ROWS_OF_HEAD = 2000  # of a table, by which it is told which columns may have coordinates
+_EVEN = 0.75  # the share of the steps between centres that are as long as the shortest
 NO_WEIGHT = 'its tonnes or density in that cell: a cell that counts as "not estimated" weighs 0, and makes air of rock'
 NO_PLACE = "fill its place in, or take the row out"  # what to try where a coordinate is no number
 PLAIN = re.compile(r"[+-]?(\d+\.?\d*|\.\d+)([eE][+-]?\d+)?")
@@ -302,6 +305,30 @@ def dialect_of(path: Path, encoding: str = "utf-8-sig") -> Dialect:
     ]
     skip = next((i for i, n in enumerate(counts) if n >= 3), 0)
     return Dialect(separator, decimal, encoding, skip)
+
+
+def numbers_and_grids(path: Path, dialect: Dialect) -> dict[str, bool]:
+    """The columns that have a number in each of a table's first rows, and whether these are spaced
+    as centres of blocks are, along the axes of a model that isn't turned."""
+    first, *rows = head_of(path, dialect.encoding, 1 + dialect.skip + _ROWS_OF_HEAD)
+    found = {}
+    with suppress(csv.Error):  # a cell of more than 128 kB
+        cells = csv.reader(filter(str.strip, rows[dialect.skip :]), delimiter=dialect.separator)
+        names = names_of(first, dialect.separator)
+        for name, column in zip(names, zip_longest(*cells, fillvalue="")):
+            plain = [cell.strip().replace(dialect.decimal, ".") for cell in column]
+            if all(map(PLAIN.fullmatch, plain)):
+                found[name] = _is_of_a_grid(np.array(plain, float))
+    return found
+
+
+def _is_of_a_grid(values: Floats) -> bool:
+    """Whether each of some numbers comes twice and more, and most that follow each other are as far
+    apart as the nearest two are; so is one number alone, as of a level."""
+    different = np.unique(values)
+    steps = np.diff(different)
+    is_even = not len(steps) or (steps <= 1.02 * steps.min()).mean() > _EVEN
+    return bool(is_even and len(different) <= max(len(values) / 2, 1))
 
 
 def dialect_beside(path: Path, encoding: str | None) -> Dialect:

@@ -842,7 +842,7 @@ KEYS = (
             " it, so where a contract pays a share of the price less the charge, give that"
             " share of the charge. The charge for a penalty element"
         ),
-        "Selling",
+        "Selling cost",
         "{currency} a unit",
         least=0,
         default=0.0,

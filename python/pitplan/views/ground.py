@@ -22,7 +22,7 @@ _LAND = ListedColormap(colormaps["terrain"](np.linspace(0.27, 0.93, 128)))  # wi
 _SHADE = ListedColormap([(0, 0, 0, alpha) for alpha in np.linspace(0, 0.6, 64)])
 
 
-def from_above(model: Model, what: str = _GROUND, unit: str = "m") -> Figure:
+def from_above(model: Model, what: str = _GROUND, unit: str = "m", grade_unit: str = "") -> Figure:
     """Draws a model from above.
 
     Parameters
@@ -33,6 +33,8 @@ def from_above(model: Model, what: str = _GROUND, unit: str = "m") -> Figure:
         words those at the ground.
     unit : str
         Of the coordinates.
+    grade_unit : str
+        Of the numbers of a column; "" where it isn't known.
 
     Raises
     ------
@@ -59,7 +61,8 @@ def from_above(model: Model, what: str = _GROUND, unit: str = "m") -> Figure:
         values = np.full(nx * ny, np.nan)
         np.fmax.at(values, at[rock], blocks[what].to_numpy(float)[rock])
         drawn = axes.pcolormesh(east, north, values.reshape(nx, ny), cmap="magma_r", shading="flat")
-        label = f"greatest {what} of each column of blocks"
+        named = f"{what} ({grade_unit})" if grade_unit else what
+        label = f"greatest {named} of each column of blocks"
         figure.colorbar(drawn, ax=axes, label=label, shrink=0.8)
     else:
         here = rock & (iz == high[at])

@@ -46,7 +46,10 @@ STATED = (
     "Each pit is as pit shells states it, which is proved to state none but the best: no pit that"
     " keeps the slopes is worth more at its factor. "
 )
-_PITS = "Discounted: dug pit after pit (best case) or bench after bench (worst case)."
+_PITS = (
+    "Discounted by the rates of [shells]: dug pit after pit (best case) or bench after bench (worst"
+    " case)."
+)
 _PHASES = "Pushbacks {set}. Amounts are those of the pushback alone, worths at the full price."
 _DESIGN = (
     "The best pit has a certificate that pit check has accepted: no pit that keeps the slopes is"

@@ -30,7 +30,7 @@ _NOTE = (
     "When each block of the best pit is dug. pit schedule says that after each {period} the mine keeps"
     " the slopes, that none uses more than its rates, and what the schedule is worth. No schedule of"
     " these blocks by these terms, {choice}, brings more than the bound, {by_whom}. Ore is what goes"
-    " to {there} {way}."
+    " to {there} {way}. Rates and discount are those of [schedule], and of [shells] where it has none."
 )
 _NO_CLASSES = (
     'There is no table of ore by class: it has what would pay at {there}, and with cutoff = "by'

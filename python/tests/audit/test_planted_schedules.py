@@ -7,6 +7,7 @@ import os
 import re
 import shutil
 from dataclasses import replace
+from decimal import Decimal
 from pathlib import Path
 
 import mines
@@ -265,6 +266,7 @@ BUNDLED = {
     "the way of one block left out": (of_ways(lambda rows: [rows[0][:2], *rows[1:]]), "way for some blocks"),
     "a way that gains nothing": (of_ways(first_to_the_mill), "its way|schedule.csv|uses"),
     "feed that waste takes too": (of_text(PERIODS, lambda t: t.replace("[0, [1]]", "[0, 1]")), "columns of uses"),
+    "a worth with a 0 more": (of_terms(npv=lambda npv: npv + ("0" if "." in npv else ".0")), "npv is .* an amount in quotes"),
     "a fixed cost of the year before": (of_terms(fixed_cost=lambda cost: cost - 1), "fixed cost|schedule.csv|flows"),
     "cash flow discounted twice": (of_cell("discounted", lambda row, v: float(v) * float(row["weight"])), "discounted"),
     "a year's worth for that so far": (of_cell("npv", lambda row, v: row["discounted"], 2), "npv"),
@@ -317,6 +319,13 @@ def test_what_is_said_before_and_after_fixed_costs_is_told_apart(planned, monkey
     )
     (line,) = capsys.readouterr().out.splitlines()
     assert "before fixed costs, which recheck_schedule.py takes off: SCHEDULE" in line
+
+
+def test_a_worth_less_its_fixed_costs_has_no_zero_at_its_end(planned):
+    """71.5 less 1.5 is written as `pit` writes amounts, so that the checker takes it."""
+    said = replace(planned.found.judged, npv="71.5")
+    found = replace(planned.found, judged=said, fixed=Decimal("1.5"))
+    assert found.facts["npv"] == "70"
 
 
 def a_year_less(terms):

@@ -270,7 +270,7 @@ def test_spanish_names_are_known_and_the_nearest_is_offered(tmp_path):
     lost = pitplan("init", "u.csv", "--column", "rock=ZONA", cwd=tmp_path)
     assert lost.returncode == 3, lost.stderr
     assert (
-        "pitplan init u.csv --column rock=ZONA --column 'x=Coord X' --column y=NORTINGH --column z=NAME\n"
+        "pitplan init u.csv --column rock=ZONA --column 'x=Coord X' --column y=NORTINGH --column z=..\n"
         in lost.stderr
     ), lost.stderr
 

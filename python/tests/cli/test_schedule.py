@@ -3,11 +3,14 @@ import json
 import math
 from types import SimpleNamespace
 
+import click
 import pandas as pd
+import pytest
 import two_ways
 from planned import run
-from pitplan.cli import schedule as command
-from pitplan.schedule.search_ends import End, STOPPED
+from pitplan.cli import main, schedule as command
+from pitplan.schedule import plan
+from pitplan.schedule.search_ends import End, SearchStopped, STOPPED
 from pitplan.schedule.search import Found
 
 
@@ -31,6 +34,44 @@ def test_the_facts_of_a_search_that_was_stopped():
     assert (facts["is_judged"], facts["ended"]) == (False, "ctrl-C")
     assert (facts["asked_gap_percent"], facts["asked_minutes"]) == (0.1, 30)
     assert Found().facts["gap_percent"] is None
+
+
+@pytest.mark.parametrize("digest, words", [("", "nothing of this run is kept"), ("a", "goes on")])
+def test_ctrl_c_says_what_is_kept(monkeypatch, capsys, digest, words):
+    """Where a search had a schedule, and where it had none: there nothing else is said."""
+
+    def stopped(**_):
+        with command._stopped(SimpleNamespace(study=SimpleNamespace(named="s")), (0, 60), {}):
+            raise SearchStopped(Found(npv=5) if digest else Found(), digest)
+
+    def app(**_):
+        try:
+            stopped()
+        except KeyboardInterrupt as error:
+            raise click.Abort from error  # as click does
+
+    for name in ("app", "take_turns", "load_commands"):
+        monkeypatch.setattr(main, name, app if name == "app" else lambda *_: None)
+    for name in ("show_schedule", "_write_facts"):
+        monkeypatch.setattr(command, name, lambda *_: None)
+    with pytest.raises(SystemExit, match="130"):
+        main._run()
+    said = " ".join(capsys.readouterr().err.split())
+    assert words in said.partition("stopped")[2]
+    assert ("its table, once there is a first bound: " in said) == bool(digest)
+    assert ("kept" in said.partition("stopped")[0]) is False
+    assert ("goes on" in said) == bool(digest)
+
+
+def test_a_search_that_was_stopped_before_it_began_has_nothing(monkeypatch):
+    def pressed(*_):
+        raise KeyboardInterrupt
+
+    monkeypatch.setattr(plan, "production_for", pressed)
+    shells = SimpleNamespace(study=SimpleNamespace(folder=None))
+    with pytest.raises(SearchStopped) as stopped:
+        plan.Schedule.of(shells, {}, {}, (0, 60))
+    assert stopped.value.digest == ""
 
 
 def test_the_planners_own_table_keeps_its_encoding(tmp_path):

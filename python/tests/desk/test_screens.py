@@ -248,7 +248,9 @@ def test_tables_that_a_terminal_made_are_shown(browser, desk, folder):
     with open(folder / "typed" / "out" / "pit_by_pit.csv") as file:
         best = next(row for row in csv.DictReader(file) if float(row["factor"]) == 1)
     assert f"{float(best['worth_at_base']):,.0f}" in browser.text("#main tr.best")
-    assert "worth at base" in browser.text("#main table thead")
+    heads = browser.text("#main table thead")
+    for head in ("worth at base ($)", "rock (t)", "grade gold (g/t)", "metal gold (oz)"):
+        assert head in heads
     browser.get(f"{desk.address}/#/typed/pushbacks")
     browser.sees("out/phases.csv", "#main h3")
     for factor in ("0.6", "1"):

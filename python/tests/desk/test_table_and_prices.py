@@ -76,9 +76,9 @@ def test_columns_of_metals_have_units_and_the_size_of_a_block_is_in_a_line(brows
     heads = (
         "return [...document.querySelectorAll('.metals thead th')].map(e => e.textContent.trim())"
     )
-    assert {"Price $", "Payable share", "Selling $ a unit"} <= set(browser.script(heads))
+    assert {"Price $", "Payable share", "Selling cost $ a unit"} <= set(browser.script(heads))
     browser.types("i.economics.metals.1.currency", "EUR")
-    assert {"Price", "Selling"} <= set(browser.script(heads))  # in dollars of one metal alone
+    assert {"Price", "Selling cost"} <= set(browser.script(heads))  # in dollars of one metal alone
 
 
 def test_gold_by_its_name_is_gold_and_what_is_taken_out_is_told(browser, begin):

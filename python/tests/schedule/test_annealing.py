@@ -107,6 +107,20 @@ def test_pairs_that_reach_into_each_other_come_one_after_the_other():
         assert (who == {threading.get_ident()}) == is_alone
 
 
+def test_swaps_end_once_the_time_is_over():
+    """Those that go on within a compiled loop, of which another thread says so, and the probes of
+    annealing: more tries than any time has."""
+    orders, plan = begun(TinyMine(2).production)
+    loose, step = orders.loose(plan), int(orders.steps[0])
+    words = (orders.mine, loose, 0, 10**12, 1, Heat(step, math.inf))
+    loop = threading.Thread(target=swaps.swap_units, args=words, daemon=True)
+    loop.start()
+    orders.end()
+    loop.join(60.0)
+    assert not loop.is_alive()
+    assert Annealing(orders, 1).mean_loss(orders.mine, loose) == 0
+
+
 class Clock:
     """A clock that says 0 so many times, and then that the time is over."""
 

@@ -103,6 +103,16 @@ def test_ctrl_c_ends_two_windows_at_a_time(hard):
     assert sorting.is_late
 
 
+def test_one_that_goes_on_after_its_time_limit_is_ended(hard, monkeypatch):
+    """As crossover does: it is as if the limit had been kept, and another process takes its place.
+    Here it gets less time than its limit, which it needs."""
+    monkeypatch.setattr(highs, "_GRACE", 1.0 - LONG)
+    found = highs.milp(*hard, time_limit=LONG)
+    assert (found.status, found.shares) == (1, None)
+    assert not highs._busy
+    assert highs.milp(*ONE).shares.tolist() == [1.0]
+
+
 def test_a_process_that_somebody_ends_is_told(hard):
     when_busy(lambda: [each.run.kill() for each in list(highs._busy)], 1)
     with pytest.raises(MachineError, match="the process of HiGHS was ended"):

@@ -1,12 +1,14 @@
 """How near a search comes to the best schedule, where that is known: on mines whose every schedule
 is tried. Each search ends by what it counts, and none by the time."""
+from functools import partial
 from types import SimpleNamespace
 
 import numpy as np
 import pytest
 from pitplan.pit import process, program
 from pitplan.pit.program import Files, Periodic, Pit
-from pitplan.schedule import search as searching
+from pitplan.schedule import bounds, search as searching, sorting
+from pitplan.schedule.block_texts import BlockTexts
 from pitplan.schedule.destinations import Timetable
 from pitplan.schedule.search import Search
 from pitplan.schedule.search_ends import MINUTES
@@ -110,6 +112,55 @@ def test_a_first_bound_is_waited_for_and_no_later_one(tmp_path, monkeypatch):
     assert len(limits) == 2
     assert search.found.closures == 1
     assert 0 < search.found.npv <= search.found.bound
+
+
+def test_what_ends_swaps_gets_the_seconds_of_the_search(tmp_path, monkeypatch):
+    """A timer, of which nobody waits for the end."""
+    timers, seen = [], []
+
+    class Timer:
+        def __init__(self, seconds, end):
+            self.asked, self.end, self.told = seconds, end, []
+            self.start, self.cancel = (partial(self.told.append, w) for w in ("start", "cancel"))
+            timers.append(self)
+
+    def looked(gap, seconds):
+        for _ in range(2):
+            seen.append(int(search.sorting.mine.over[0]))
+            timers[-1].end()
+        return MINUTES
+
+    monkeypatch.setattr(sorting, "threading", SimpleNamespace(Timer=Timer))
+    search = Search(tmp_path, TinyMine(2, **BOTH).production, Pit())
+    monkeypatch.setattr(search, "looked", looked)
+    for seconds in (60.0, 90.0):
+        search.run(0.0, seconds)
+    assert [timer.asked for timer in timers] == [60.0, 90.0]
+    assert [timer.told for timer in timers] == [["start", "cancel"]] * 2
+    assert seen == [0, 1, 0, 1]
+
+
+def test_the_files_of_a_bound_are_written_within_its_seconds(tmp_path, monkeypatch):
+    """Of five seconds that of the best pit may take all, and where four are over the bound has one."""
+    made, asked, clock = TinyMine(2).production, [], iter([10.0, 14.0, 20.0])
+    for module in (bounds, process):
+        monkeypatch.setattr(module, "time", SimpleNamespace(monotonic=lambda: next(clock)))
+
+    def late(mine, seconds):
+        raise process.OutOfTime
+
+    nodes = BlockTexts(made, Files(tmp_path / "a", tmp_path / "b"))
+    prices = np.zeros(made.capacities.shape, np.int64)
+    program = SimpleNamespace(
+        best_of=lambda mine, seconds: asked.append(seconds),
+        bound=lambda mine, certificate, seconds: asked.append(seconds),
+    )
+    assert nodes.closed(program, tmp_path, prices, 5.0) is None
+    assert asked == [5.0, 1.0]
+    (tmp_path / "uses.blocks").unlink()
+    program.best_of = late
+    assert nodes.closed(program, tmp_path, prices, 5.0) is None
+    assert asked == [5.0, 1.0]
 
 
 def test_a_judgement_that_takes_too_long_is_ended(tmp_path):

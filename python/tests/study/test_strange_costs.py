@@ -88,6 +88,17 @@ def frame():
             LEACH,
         ),
         ({"mining": 24, "currency": "A$"}, "digging a tonne costs 24 A$; 1 to 10", MINING),
+        (
+            {"processing": 9000, "currency": "CLP"},
+            "digging a tonne costs 2 CLP; 950 to 9,500 is usual, and in dollars 1 to 10\n"
+            '  try: mining in [economics] in CLP, or currency = "$"',
+            MINING,
+        ),
+        (
+            {"mining": 40.0, "processing": 8.0, "currency": "MXN"},
+            "treating a tonne costs 8 MXN; 36 to 1,100 is usual, and in dollars 2 to 60",
+            PROCESSING,
+        ),
         ({"mining": 0}, "digging costs nothing", MINING),
         ({"processing": 0}, "treating the ore costs nothing", PROCESSING),
     ],
@@ -111,6 +122,9 @@ def test_a_cost_that_is_far_off_is_told(frame, keys, said, key):
         {"processing": {"OXI": 7.5, "other": 9.0}},
         way(4.0),
         {"mining": 2400, "processing": 9000, "currency": "CLP"},
+        {"mining": 20, "processing": 60, "currency": "MXN"},  # 1.1 and 3.3 dollars
+        {"mining": 3.5, "processing": 12, "currency": "PEN"},
+        {"mining": 2.0, "processing": 9.0, "currency": "Kc"},
         {"rounding": 1000},
     ],
 )

@@ -6,7 +6,9 @@ import numpy as np
 import pytest
 
 from mines import below, table, written_study
+from pitplan.model.economics import Economics, Metal
 from pitplan.study.check import check
+from pitplan.study.strange_inputs import _of_dollars, _of_two_rates
 from processes import TOP
 from slips import STUDY, cell, slipped
 
@@ -50,6 +52,25 @@ LOOKS = [
         None,
         'gold costs 61 $ a oz; about 1,900 is usual\n  try: price = 1897.3 of gold, or price_unit = "g"',
         ("economics", "metals", "gold", "price"),
+    ),
+    (
+        "a price in dollars told as one in pesos",
+        ("[economics]", '[economics]\ncurrency = "CLP"'),
+        None,
+        "copper costs 8,500 CLP a t; about 8,100,000 is usual, and in dollars 8,500\n"
+        '  try: price of copper in CLP, or currency = "$" in [economics]',
+        ("economics", "metals", "copper", "price"),
+    ),
+    (
+        "a metal's price in dollars told as one in soles",
+        (
+            'metals = [\n    { name = "copper",',
+            'exchange = { PEN = 0.27 }\nmetals = [\n    { name = "copper", currency = "PEN",',
+        ),
+        None,
+        "copper costs 8,500 PEN a t; about 31,000 is usual, and in dollars 8,500\n"
+        '  try: price of copper in PEN, or currency = "$" in metal copper',
+        ("economics", "metals", "copper", "price"),
     ),
     (
         "percent told as ppm",
@@ -248,6 +269,17 @@ LOOKS = [
         ("schedule", "mill_rate"),
     ),
     (
+        "other rates of the plan by years than of the pits",
+        (
+            "discount = 0.08",
+            "discount = 0.08\n[schedule]\nmining_rate = [5e5, 1e6]\nmill_rate = [0, 4e5]\ndiscount = 0.1",
+        ),
+        None,
+        "mill_rate is 0, 400,000 in [schedule], and 500,000 for the pits; discount is 0.1 in [schedule],"
+        " and 0.08 for the pits; the best",
+        ("schedule",),
+    ),
+    (
         "a discount of a point moved",
         ("discount = 0.08", "discount = 0.85"),
         None,
@@ -306,6 +338,43 @@ def test_a_slip_looks_wrong(tmp_path, text, frame, said, key):
     assert len(hits) == 1, [(str(look), look.key) for look in found.looks]
     assert hits[0].key == key, [(str(look), look.key) for look in found.looks]
     assert hits[0].try_this, [(str(look), look.key) for look in found.looks]
+
+
+@pytest.mark.parametrize(
+    "currency, prices",
+    [
+        ("PEN", (16_500, 4000)),  # copper at 4,460 dollars a tonne, gold at 1,080 an ounce
+        ("MXN", (85_000, 20_000)),  # of ten pesos a dollar
+        ("CLP", (4_300_000, 900_000)),  # of five hundred
+        ("Kc", (8500, 1900)),  # of which nothing is known
+    ],
+)
+def test_low_prices_in_another_currency_are_none_in_dollars(currency, prices):
+    copper, gold = (
+        Metal(name, "G", price=price, recovery=0.85, price_unit=unit)
+        for name, price, unit in zip(("copper", "gold"), prices, ("t", "oz"))
+    )
+    economics = Economics(metals=(copper, gold), mining=2.0, processing=9.0, currency=currency)
+    assert list(_of_dollars(economics)) == []
+
+
+@pytest.mark.parametrize(
+    "terms, rates, said",
+    [
+        ({"mill_rate": [0, 5e5], "mining_rate": 1e6}, {"mill_rate": 5e5, "mining_rate": 1e6}, None),
+        ({}, {"mill_rate": 5e5}, None),
+        ({"discount": 0.1}, {}, None),  # which is that of pits, too, where nothing is said
+        ({"mining_rate": 1e6}, {}, "mining_rate is 1,000,000 in [schedule], and none for the pits"),
+        (
+            {"process_rates": {"leach": 2e5}},
+            {"process_rates": {"mill": 5e5, "leach": 1e5}},
+            "the rate of leach is 200,000 in [schedule], and 100,000 for the pits",
+        ),
+    ],
+)
+def test_rates_of_plan_and_pits_are_held_beside_each_other(terms, rates, said):
+    found = [str(look) for look in _of_two_rates(terms, rates)]
+    assert [look.partition(";")[0] for look in found] == ([said] if said else [])
 
 
 CAUSES = [  # a slip, what is said of it, and of what comes of it

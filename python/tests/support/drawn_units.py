@@ -24,6 +24,7 @@ def mine_of(pairs, values, rooms, sink=(), uses=None, opening=None):
         units,
         np.array(opening or [0] * len(rooms), np.int64),
         np.array(rooms, np.int64),
+        np.zeros(1, np.int64),
     )
 
 

@@ -55,7 +55,7 @@ def test_the_usual_names_of_columns_are_known(tmp_path, package):
 def test_a_first_line_that_is_no_header_is_told(tmp_path, change):
     said = refusal(tmp_path, None, text=change(table(4, 3, 3, 1).to_csv(index=False)).encode())
     assert "the first line isn't the header line" in said
-    assert "NAME" not in said
+    assert ".." not in said
 
 
 def test_names_of_ones_own(tmp_path):
@@ -86,6 +86,18 @@ def test_names_that_were_looked_for_are_told():
         assert set(names.split()) <= set(line[len(start) : -len(end)].split(", "))
     assert " rl," not in x + y
     assert advice.startswith("  try: ")
+
+
+def test_only_columns_that_may_have_coordinates_are_offered(tmp_path):
+    """Of a table without usual names: MERID isn't like mid_x, ESTADO has words, and ESTAN grades;
+    EASTINGX has coordinates, and so has PLACE-Y, by its letter, of a model that is turned."""
+    f = table(6, 5, 4, 3).rename(columns={"XC": "MERID", "YC": "PARAL", "ZC": "HOEHE"})
+    f["ESTADO"], f["ESTAN"] = "ok", f.CU
+    assert 'x = "..", y = "..", z = ".."' in refusal(tmp_path, f)
+    f["EASTINGX"] = f.MERID
+    assert 'x = "EASTINGX", y = "..", z = ".."' in refusal(tmp_path, f)
+    turned = table(6, 5, 4, 3, rotation=30).rename(columns={"XC": "EASTINGX", "YC": "PLACE-Y"})
+    assert 'x = "..", y = "PLACE-Y"}' in refusal(tmp_path, turned).replace(" }", "}")
 
 
 def test_east_west_is_x_and_north_south_is_y_where_the_usual_names_arent_there():

@@ -41,8 +41,10 @@ def test_the_ground_is_half_a_block_above_the_highest_centre(frame, model):
 
 
 def test_a_grade_is_the_greatest_of_its_column(frame, model):
-    figure = from_above(model, "CU", "ft")
+    figure = from_above(model, "CU", "ft", "%")
     assert np.allclose(colours(figure.axes[0]), by_column(frame, lambda rows: rows.CU.max()))
+    assert figure.axes[1].get_ylabel() == "greatest CU (%) of each column of blocks"
+    figure = from_above(model, "CU", "ft")
     assert figure.axes[1].get_ylabel() == "greatest CU of each column of blocks"
     assert figure.axes[0].get_ylabel() == "Northing (ft)"
 

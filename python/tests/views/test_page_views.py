@@ -12,7 +12,9 @@ def test_tables_by_process_say_what_their_rows_are_of(tmp_path):
     plan = read_study_file(two_ways.written(tmp_path / "s"))
     Study.create(tmp_path / "s", plan.read_model(), plan.economics, plan.slopes)
     shells = Study(tmp_path / "s").shells([600, 1000])
-    (pits,) = page_views.pits(shells, shells.table()).more
+    view = page_views.pits(shells, shells.table())
+    assert "Discounted by the rates of [shells]: dug pit after pit" in view.note
+    (pits,) = view.more
     (pushbacks,) = page_views.phases(Phases(shells)).more
     assert (pits.first, pits.names[0]) == ("Factor, to", "0.60, mill")
     assert (pushbacks.first, pushbacks.names[0]) == ("Pushback, to", "1, mill")

@@ -213,6 +213,17 @@ def test_what_stays_in_the_ground_is_said(found):
     )
 
 
+def test_fixed_costs_are_not_in_what_stays(found):
+    """Years that would dig it pay them too; and whose rates these are is said."""
+    terms, made = replace(found.production.terms, fixed_cost=5), copy.copy(found)
+    object.__setattr__(made, "production", replace(found.production, terms=terms))
+    last = found.period == found.period.max()
+    object.__setattr__(made, "period", np.where(last, -1, found.period))
+    view = schedule_view.schedule(made, Tables(found).years())
+    assert view.lines[1].endswith(" undiscounted, before fixed costs")
+    assert "those of [schedule], and of [shells] where it has none." in view.note
+
+
 def test_no_amount_is_said_that_is_more_than_is_known(found):
     """The worth is rounded down, and the bound up."""
     (said, *_) = schedule_view.schedule(found, Tables(found).years()).lines

@@ -1,7 +1,7 @@
 // Runs: how far one is, and what it has said, from its events.
 import { amounts, button, card, chip, choice, entry, h, labelled, look, number, table, tick, tip,
   when } from "./dom.js";
-import { D, ask, draw, eventsOf, file, going, keep, start, typed } from "./desk.js";
+import { D, ask, draw, eventsOf, file, going, keep, start, typed, valueOf } from "./desk.js";
 import { faultBox } from "./fields.js";
 /** A button with the commands that it runs. @param {any} asked as button_commands.py has it */
 export function runner(id, label, asked, { needs = false, main = false } = {}) {
@@ -37,7 +37,7 @@ export function before(isOne) {
 }
 /** The rows of a table of pits, with a mark on the best one: that of the price as it is. */
 const best = ({ names, rows }) => n => (names[0] === "factor" && Number(rows[n][0]) === 1
-  && names.some(name => ["best case", "npv best"].includes(name))
+  && names.some(name => /^(best case|npv best)/.test(name))
   ? { className: "best", title: "the best pit, at the price as it is" } : {});
 /** How each event of a run is told. @type {Object<string, (event: any) => any>} */
 const SAID = {
@@ -103,10 +103,26 @@ function shown(run, isOpen) {
 /** Tables in `out`, and what makes them. */
 const MADE = { pit_by_pit: "shells", schedule: "schedule", phases: "phases", vary: "vary",
   vary_schedule: "vary", risk: "risk", risk_schedule: "risk" };
+const LENGTHS = /^(bottom|bench|toe|crest|width|sink_(x|y|bench))$/;
+const MONEY = /^(cash_flow|discounted|fixed_cost|npv.*|bound.*|worth.*)$/;
 const figure = cell => (cell === "" || Number.isNaN(+cell) ? cell : (+cell).toLocaleString("en",
   { maximumFractionDigits: Math.abs(+cell) < 1e5 ? 3 : 0 })); // of elevations all of them
 const cellsOf = text => text.trim().split("\n").map(line => [...`,${line}`.matchAll(
   /,(?:"((?:[^"]|"")*)"|([^,]*))/g)].map(([, quoted, bare]) => quoted ?? bare));
+/** A column of a table of `out`, with the unit of its amounts. @param {string} column */
+function named(column) {
+  const name = column.replaceAll("_", " ");
+  const [, kind, of] = column.match(/(grade|metal)_(.+)$/) ?? [];
+  const metal = valueOf(["economics", "metals"])?.find?.(each => each.name === of);
+  const { length = "m", weight = "t" } = valueOf(["model", "units"]) ?? {};
+  if (metal) {
+    const [key, usual] = kind === "grade" ? ["grade_unit", "%"] : ["price_unit", "t"];
+    return `${name} (${metal[key] ?? usual})`;
+  }
+  if (/_t$/.test(column)) return `${name.slice(0, -2)} (${weight})`;
+  if (LENGTHS.test(column)) return `${name} (${length})`;
+  return MONEY.test(column) ? `${name} (${valueOf(["economics", "currency"]) ?? "$"})` : name;
+}
 /** A table of `out` that no run of the desk has told. @param {any} f its file */
 function tableOf(f) {
   const key = fresh(f);
@@ -117,7 +133,7 @@ function tableOf(f) {
   }
   const [names, ...rows] = D.events[key].list;
   return names && card(null, before(), SAID.table({ title: f.path, rows: rows.map(row => (
-    row.map(figure))), names: names.map(name => name.replaceAll("_", " ")) }));
+    row.map(figure))), names: names.map(named) }));
 }
 /** What was made by a terminal, and the runs of some kinds, the latest open. */
 export function runsOf(...kinds) {
