@@ -126,6 +126,6 @@ def try_all(program):
                 (folder / file).write_text("")
             results += tried(program, folder)
     strange = [line for line in results if line]
-    for line in strange:
+    for line in strange[:10]:
         print("reasons: %s" % line)
     return len(results) - len(strange), len(strange)
