@@ -34,7 +34,15 @@ RUNS = (
         1,
         ["progress: 65536 steps, 65% of the limit"],
     ),
+    # one block and one period are one node
+    (
+        ORE,
+        ["--uses", "b", "--periods", "t", "--method", "pseudoflow"],
+        0,
+        ["progress: 1 of 1 blocks settled"],
+    ),
 )
+ONE_PERIOD = "weights = [1000000]\nresources = []\ncapacities = []\nmultipliers = []\n"
 # Two ore blocks that pay together for the waste on both; and one that doesn't pay for its waste, beside one that has none.
 ALL = nets.Mine([6, 5, -10], [(0, 2), (1, 2)], None, ())
 PART = nets.Mine([6, 4, -30], [(0, 2)], None, ())
@@ -47,11 +55,12 @@ ENDS = tuple(
     )
     for words in (
         [],
+        ["--workers", "2"],
         ["--method", "pseudoflow"],
         ["--method", "lock-free"],
         ["--method", "lock-free", "--workers", "2"],
         ["--group", "worth"],
-        ["--trace", "t"],
+        ["--trace", "x"],
     )
 )
 
@@ -69,6 +78,8 @@ def told(program, mine, words):
     with tempfile.TemporaryDirectory() as folder:
         os.mkfifo(Path(folder) / "u")
         (Path(folder) / "p").write_text(prec)
+        (Path(folder) / "b").write_text("0 0 0 0\n")
+        (Path(folder) / "t").write_text(ONE_PERIOD)
         giver = threading.Thread(target=give_late, args=(Path(folder) / "u", upit))
         giver.start()
         done = subprocess.run(

@@ -48,15 +48,23 @@ KINDS = (
 )
 # How many threads are started by so many workers beside the caller's own, for the shells of the copper mine at eight factors. The
 # highest one is looked for first, then the middle one, then two at a time, and then four: each time as many threads start as
-# there are workers and parts, less one.
+# there are workers and parts, less one. Without a word there is one worker. And how many start where three threads read each of
+# two texts, of which one is the caller's own.
 EIGHT = "factors = [300, 400, 500, 600, 700, 800, 900, 1000]"
-STARTS = tuple(
-    (
-        "shells/the_copper_mine_with_a_mill",
-        ["--method", "pseudoflow", "--workers", str(workers)],
-        sum(min(workers, parts) - 1 for parts in (1, 1, 2, 4)),
-    )
-    for workers in (1, 2, 3, 4, 5)
+STARTS = (
+    *(
+        (
+            "shells/the_copper_mine_with_a_mill",
+            ["--method", "pseudoflow", "--workers", str(workers)],
+            sum(min(workers, parts) - 1 for parts in (1, 1, 2, 4)),
+        )
+        for workers in (1, 2, 3, 4, 5)
+    ),
+    ("shells/the_copper_mine_with_a_mill", ["--method", "pseudoflow"], 0),
+    ("solve/lock_free_one_block_worth_digging", [], 0),
+    ("solve/lock_free_one_block_worth_digging", ["--threads", "3"], 4),
+    ("solve/over_periods", ["--method", "pseudoflow", "--threads", "3"], 4),
+    ("check/the_copper_mine", ["--threads", "3"], 4),
 )
 # How long a run may take, and what stands for the status of one that takes longer.
 SECONDS = 120
@@ -164,8 +172,9 @@ def starts(program, library, row, words, wanted):
         folder, mark = Path(room) / "case", Path(room) / "mark"
         folder.mkdir()
         words = lay_out(HERE.parent / "cases" / row, folder) + words
-        settings = folder / "s"
-        settings.write_text(re.sub(r"^factors = .*$", EIGHT, settings.read_text(), flags=re.M))
+        if (folder / "s").exists():
+            settings = (folder / "s").read_text()
+            (folder / "s").write_text(re.sub(r"^factors = .*$", EIGHT, settings, flags=re.M))
         for number in count(1):
             run(
                 program,

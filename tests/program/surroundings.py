@@ -81,6 +81,15 @@ def with_closed_outputs(program):
             )
 
 
+def with_arguments_that_are_no_text(program):
+    """Arguments that aren't in UTF-8 can't be shown, and are a wrong use all the same."""
+    with room_with(FILES) as room:
+        said = run(program, ["check", *VALUES, b"\xff"], room)
+    yield None if said == (2, b"", b"fault: usage\n") else "arguments that are no text: %r" % (
+        said,
+    )
+
+
 LAUNCHER = Path(__file__).resolve().parents[2] / "tools" / "launcher"
 LIMIT = 1000
 
@@ -348,6 +357,7 @@ def try_all(program):
         for tried in (
             on_one_processor,
             with_closed_outputs,
+            with_arguments_that_are_no_text,
             with_files_of_a_limit,
             more_pairs_than_may_be,
             more_pairs_than_a_list_has,

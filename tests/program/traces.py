@@ -17,6 +17,8 @@ FILES = {
 }
 VALUES = ["--prec", "p", "--upit", "u"]
 PRICES = ["--prec", "p", "--blocks", "b", "--settings", "s", "--factor", "1000"]
+SLOPED = ["--blocks", "b", "--settings", "s", "--factor", "1000"]
+VALUED = ["--upit", "u", "--blocks", "b", "--settings", "s"]
 MACHINE = ["--method", "push-relabel"]
 HEAD = b"PITTRACE 1\n"
 
@@ -35,7 +37,7 @@ def left(folder):
 
 def under_an_inputs_name(program):
     """The name of an input is declined before a file is opened, and nothing is changed."""
-    for model in (VALUES, PRICES):
+    for model in (VALUES, PRICES, SLOPED, VALUED):
         for name in model[1::2]:
             if name not in FILES:
                 continue
