@@ -3,8 +3,10 @@ from __future__ import annotations
 
 import hmac
 from collections.abc import Awaitable, Callable, Mapping
+from contextlib import suppress
 from typing import Any
 
+import h11
 from starlette.datastructures import MutableHeaders
 from starlette.requests import Request
 from starlette.responses import HTMLResponse, PlainTextResponse, Response
@@ -54,7 +56,8 @@ class Guard:
             return
         request = Request(scope)
         answer = self.answer(request, request.headers.get("host", ""))
-        await (answer or self.app)(scope, receive, _hardened(send))
+        with suppress(h11.LocalProtocolError):  # what came after the request wasn't HTTP: nobody listens
+            await (answer or self.app)(scope, receive, _hardened(send))
 
     def answer(self, request: Request, host: str) -> Response | None:
         """What a stranger gets; None where a request comes from the desk's own pages."""

@@ -170,8 +170,8 @@ class Desk:
         table = str(asked.get("table", ""))
         name = str(asked.get("name") or re.sub(r"(?i)(\.csv)?(\.gz)?$", "", table))
         study = self.folder.new_study(name)
-        said = asked.get("columns") if isinstance(asked.get("columns"), dict) else {}
-        columns = {str(key): str(value) for key, value in said.items()}
+        said = asked.get("columns")
+        columns = {str(it): str(said[it]) for it in said} if isinstance(said, dict) else {}
         encoding = str(asked.get("encoding") or "") or None
         return await self.heavy("begin", study, self.folder.file(table, TABLES), columns, encoding)
 
