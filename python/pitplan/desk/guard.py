@@ -56,7 +56,9 @@ class Guard:
             return
         request = Request(scope)
         answer = self.answer(request, request.headers.get("host", ""))
-        with suppress(h11.LocalProtocolError):  # what came after the request wasn't HTTP: nobody listens
+        with suppress(
+            h11.LocalProtocolError
+        ):  # what came after the request wasn't HTTP: nobody listens
             await (answer or self.app)(scope, receive, _hardened(send))
 
     def answer(self, request: Request, host: str) -> Response | None:

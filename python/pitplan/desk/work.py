@@ -5,15 +5,12 @@ words. Nothing is kept but what was read of a table, so that prices can be tried
 again."""
 from __future__ import annotations
 
-import csv
 import functools
 import io
-import re
 import time
 import tomllib
 from collections.abc import Mapping
 from contextlib import suppress
-from itertools import zip_longest
 from pathlib import Path
 from typing import Any
 
@@ -40,7 +37,7 @@ from ..study.study_file import parts_of_file, read_study_file
 from ..table.column_lines import line_of_column
 from ..table.column_names import PLACES, columns_found, nearest
 from ..table.csv_text import SAY_ENCODING, dialect_of, head_of, names_of, numbers_among
-from ..table.csv_text import numbers_and_grids, read_frame, rows_about
+from ..table.csv_text import numbers_and_grids, read_frame, rows_about, with_numbers
 from ..views import slope_rose
 from ..views.ground import from_above
 from .folder import stamp
@@ -50,8 +47,6 @@ _GUESSED = ("size", "rotation", "absent")  # keys of [model] that a look at the 
 ASK_COLUMNS = 'choose below which column is which, and press "Go on"'
 _ASK_ENCODING = 'save it as "CSV UTF-8"; or type its encoding below, as cp1252, and press "Go on"'
 _WIDEST = 60  # columns of a row that are shown
-_MOST_ROWS = 20  # in which a column that may be a coordinate has a number
-_NUMBER = re.compile(r"\s*[-+]?[\d.,]*\d[\d.,]*(e[-+]?\d+)?\s*", re.IGNORECASE)
 _KEPT = {"schedule": "runs/schedule/schedule.npz", "risk": "risk/risk.json"}
 _Json = dict[str, Any]
 
@@ -75,18 +70,16 @@ def _asked_for(
     errors = errors_as_data(error)
     try:
         dialect = dialect_of(table, encoding or "utf-8-sig")
-        first, *rows = head_of(table, dialect.encoding, 1 + _MOST_ROWS)
-        header = names_of(first, dialect.separator)
+        header = names_of(head_of(table, dialect.encoding, 1)[0], dialect.separator)
     except PlanError:
         if errors[0]["try"] == SAY_ENCODING:
             errors[0]["try"] = _ASK_ENCODING
         return {"errors": errors, "asks": "encoding"}
     found = columns_found(header, columns)
     missing = [key for key in PLACES if key not in found]
-    cells = zip_longest(*csv.reader(rows, delimiter=dialect.separator), fillvalue="")
-    numbers = [name for name, column in zip(header, cells) if any(map(_NUMBER.fullmatch, column))]
+    wrong = set(found.values()) - set(with_numbers(table, dialect))
     for it in errors:
-        if it["column"] in set(found.values()) - set(numbers):  # the choice is wrong, not the cells
+        if it["column"] in wrong:  # the choice is wrong, not the cells
             it["try"] = "choose another column in its place"
     grids = numbers_and_grids(table, dialect)
     free = {name: is_grid for name, is_grid in grids.items() if name not in found.values()}
@@ -197,15 +190,13 @@ def overview(study: Path) -> _Json:
         return answer
     answer |= {name: (study / path).is_file() for name, path in _KEPT.items()} | {"built": True}
     answer |= {"blocks": built.manifest["blocks"], "currency": built.currency}
+    said = ["bad", "study.toml has a mistake"]
     try:
         file = read_study_file(study)
-    except PlanError as error:
-        said = ["bad", "study.toml has a mistake", error.said]
-        return {**answer, "old": error.said, "said": said, "plan": plan_said(built, {}, {})}
-    try:
+        said = ["warn", "changed since it was built"]
         built.refuse_changed(file.path, file.digest, file.table)
     except PlanError as error:
-        said = ["warn", "changed since it was built", error.said]
+        said.append(error.said)
         return {**answer, "old": error.said, "said": said, "plan": plan_said(built, {}, {})}
     verdicts = {factor: found for factor in file.factors if (found := built.verdict(factor))}
     full, there, of = verdicts.get(THOUSAND), len(verdicts), len(file.factors)

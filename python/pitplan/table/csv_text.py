@@ -53,6 +53,7 @@ _EVEN = 0.75  # the share of the steps between centres that are as long as the s
 NO_WEIGHT = 'its tonnes or density in that cell: a cell that counts as "not estimated" weighs 0, and makes air of rock'
 NO_PLACE = "fill its place in, or take the row out"  # what to try where a coordinate is no number
 PLAIN = re.compile(r"[+-]?(\d+\.?\d*|\.\d+)([eE][+-]?\d+)?")
+_LIKE_A_NUMBER = re.compile(r"[-+]?[\d.,]*\d[\d.,]*(e[-+]?\d+)?", re.IGNORECASE)
 _LETTERED = str.maketrans("OolI", "0011")  # letters that are typed for digits
 
 
@@ -307,19 +308,34 @@ def dialect_of(path: Path, encoding: str = "utf-8-sig") -> Dialect:
     return Dialect(separator, decimal, encoding, skip)
 
 
+def _first_cells(path: Path, dialect: Dialect) -> dict[str, list[str]]:
+    """The cells of each column in a table's first rows, with a point in decimals."""
+    first, *rows = head_of(path, dialect.encoding, 1 + dialect.skip + _ROWS_OF_HEAD)
+    lines = filter(str.strip, rows[dialect.skip :])
+    names = names_of(first, dialect.separator)
+    with suppress(csv.Error):  # a cell of more than 128 kB
+        columns = zip_longest(*csv.reader(lines, delimiter=dialect.separator), fillvalue="")
+        return {
+            name: [cell.strip().replace(dialect.decimal, ".") for cell in column]
+            for name, column in zip(names, columns)
+        }
+    return {}
+
+
+def with_numbers(path: Path, dialect: Dialect) -> list[str]:
+    """The columns that have something like a number in one of a table's first rows."""
+    cells = _first_cells(path, dialect)
+    return [name for name, column in cells.items() if any(map(_LIKE_A_NUMBER.fullmatch, column))]
+
+
 def numbers_and_grids(path: Path, dialect: Dialect) -> dict[str, bool]:
     """The columns that have a number in each of a table's first rows, and whether these are spaced
     as centres of blocks are, along the axes of a model that isn't turned."""
-    first, *rows = head_of(path, dialect.encoding, 1 + dialect.skip + _ROWS_OF_HEAD)
-    found = {}
-    with suppress(csv.Error):  # a cell of more than 128 kB
-        cells = csv.reader(filter(str.strip, rows[dialect.skip :]), delimiter=dialect.separator)
-        names = names_of(first, dialect.separator)
-        for name, column in zip(names, zip_longest(*cells, fillvalue="")):
-            plain = [cell.strip().replace(dialect.decimal, ".") for cell in column]
-            if all(map(PLAIN.fullmatch, plain)):
-                found[name] = _is_of_a_grid(np.array(plain, float))
-    return found
+    return {
+        name: _is_of_a_grid(np.array(column, float))
+        for name, column in _first_cells(path, dialect).items()
+        if all(map(PLAIN.fullmatch, column))
+    }
 
 
 def _is_of_a_grid(values: Floats) -> bool:
