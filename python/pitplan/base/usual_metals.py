@@ -63,7 +63,7 @@ _KNOWN |= {word: _KNOWN[name] for word, name in _NAMES.items()}
 # currencies in which a usual price or cost in dollars is about its number
 _DOLLARS = re.compile(r"[A-Z]{0,3}\$|USD|AUD|CAD|EUR|GBP|€|£")
 # About how many units of a currency a dollar is worth, of those in which that holds for decades.
-_A_DOLLAR = {
+_A_DOLLAR: dict[str, float] = {
     **{"CLP": 950, "COP": 4000, "PEN": 3.7, "S/": 3.7, "S/.": 3.7, "MXN": 18, "MX$": 18},
     **{"BRL": 5.5, "R$": 5.5, "ZAR": 18, "R": 18, "XOF": 600, "TZS": 2500, "CNY": 7},
     **{"INR": 85, "IDR": 16_000, "PHP": 57, "KZT": 480, "MNT": 3400, "RUB": 90},

@@ -161,7 +161,8 @@ class Schedule:
         SearchStopped
             After ctrl-C, with what was found kept.
         """
-        place, search = folder or shells.study.folder, None
+        place = folder or shells.study.folder
+        search: Search | None = None
         try:
             made = production_for(shells, values, rates)
             search = Search(place, made, shells.study.program, listener, shells.study.files)

@@ -571,7 +571,9 @@ def _of_two_rates(terms: Mapping[str, Any], rates: Mapping[str, Any]) -> Iterato
     """Rates and a discount of [schedule] that the discounted cases of the pits don't have; of rates
     by year none of which is theirs."""
     told, other = terms.get("process_rates") or {}, rates.get("process_rates") or {}
-    asked = [(name, terms.get(name), rates.get(name)) for name in ("mining_rate", "mill_rate")]
+    asked: list[tuple[str, Any, Any]] = [
+        (name, terms.get(name), rates.get(name)) for name in ("mining_rate", "mill_rate")
+    ]
     asked.append(("discount", terms.get("discount"), rates.get("discount", Rates().discount)))
     asked += [(f"the rate of {name}", told[name], other.get(name)) for name in told]
     found = [
