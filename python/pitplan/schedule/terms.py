@@ -446,7 +446,7 @@ def _years_of(rates: list[float], total: float) -> int:
         total -= rate
         if total <= 0:
             return year + 1
-    return len(rates) + (min(math.ceil(total / rates[-1]), 10**9) if rates[-1] else 0)
+    return len(rates) + (math.ceil(min(total / rates[-1], 1e9)) if rates[-1] else 0)
 
 
 def _refuse_longer(called: str, yearly: Sequence[float], years: int | None) -> None:

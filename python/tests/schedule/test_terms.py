@@ -86,6 +86,7 @@ def test_without_a_rate_nothing_limits_that():
             "mining_rate = 0.001 .* at most 200 periods",
             ("shells", "mining_rate"),
         ),
+        ({"mill_rate": 1e-320}, RATES, "at most 200 periods", ("schedule", "mill_rate")),
         (
             {"mill_rate": [1, 2]},
             RATES,
