@@ -82,6 +82,10 @@ def _remedy(error: OSError) -> str:
             "\n  try: a folder that you may write in:"
             f" {escape(str(Path(error.filename or '.').parent))} is none"
         )
+    if error.errno == errno.EISDIR:
+        return (
+            "\n  try: move that folder away, since a file stands there, and run the command again"
+        )
     return (
         "\n  try: make room on that disk; what is done is kept"
         if error.errno in (errno.ENOSPC, errno.EDQUOT)

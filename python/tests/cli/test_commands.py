@@ -69,6 +69,17 @@ def test_shells_before_build_says_so(tmp_path):
     assert hinted(ran) == [PITPLAN, "build", str(tmp_path / "s")]
 
 
+def test_a_folder_in_the_place_of_a_file_is_to_be_moved_away(tmp_path):
+    folder = written_study(tmp_path / "s", table(9, 8, 5, 5))
+    (folder / "model/manifest.json").mkdir(parents=True)
+    ran = pitplan("shells", "s", cwd=tmp_path)
+    assert ran.returncode == 4
+    assert ran.stderr == (
+        "error: s/model/manifest.json: Is a directory\n"
+        "  try: move that folder away, since a file stands there, and run the command again\n"
+    )
+
+
 def test_each_hint_can_be_pasted(tmp_path):
     """What an error says to try is typed as it stands, until pitplan has nothing more to say; also
     where the folder has a space, a study.toml has another name, and the command is found on the

@@ -217,7 +217,7 @@ def changed_study(text, r):
     if kind == "value" and "=" in lines[at]:
         lines[at] = lines[at].split("=")[0] + "= " + r.choice(VALUES)
     elif kind == "number":
-        parts = re.split(r"(?<=[ \[])(\d[\d.e]*)", lines[at])
+        parts = re.split(r"(?<=[ \[])(\d+(?:\.\d+)?(?:e\d+)?)", lines[at])
         if len(parts) > 1:
             place = r.randrange(1, len(parts), 2)
             parts[place] = f"{float(parts[place]) * r.choice(TIMES):.12g}"
