@@ -265,7 +265,8 @@ USUAL: dict[str, tuple[str, ...]] = {
 MOST_CLASSES = (
     12  # of resources: a column with more words says something else, unless the planner names it
 )
-# Parts of names of columns that say in which region of slopes a block is, the likeliest first.
+# Parts of names of columns that say in which region of slopes a block is, the likeliest first,
+# without accents.
 REGIONS = (
     "sector",
     "setor",
@@ -278,7 +279,7 @@ REGIONS = (
     "wall",
     "pared",
     "region",
-    "região",
+    "regiao",
     "dominio",
     "domain",
     "zona",
@@ -324,6 +325,13 @@ def which_columns(
                     f"there is no column {name!r} for {key}{meant(name, header)}",
                     table=table,
                 ).with_swap(swap_of(name, header))
+            twice = [axis for axis in PLACES if key in PLACES and given.get(axis) == name]
+            if len(twice) > 1:
+                raise PlanError(
+                    f"column {name!r} is named for {' and '.join(twice)}",
+                    table=table,
+                    try_this="a column of its own for each of x, y and z",
+                )
     wrong.tell()
     found = columns_found(header, given)
     missing = [key for key in PLACES if key not in found]
@@ -428,6 +436,8 @@ def nearest(missing: Sequence[str], names: Sequence[str]) -> dict[str, str]:
     {'x': 'X_LOCAL', 'y': 'Y_LOCAL'}
     >>> nearest(["y", "z"], ["NSR", "R", "NORDWERT"])
     {'y': 'NORDWERT', 'z': 'NAME'}
+    >>> nearest(["y", "z"], ["Centroid Elev (ft)", "Centroid North (ft)"])
+    {'y': 'Centroid North (ft)', 'z': 'Centroid Elev (ft)'}
     """
     found: dict[str, str] = {}
     for key in missing:
@@ -438,12 +448,13 @@ def nearest(missing: Sequence[str], names: Sequence[str]) -> dict[str, str]:
 
 
 def _alike(key: str, name: str) -> float:
-    """How much a name looks like the usual names of a key, from 0 to 1; x, y or z as a word of its
-    own makes it one of that axis."""
+    """How much a name looks like the usual names of a key, from 0 to 1; a usual name of x, y or z as
+    a word of its own makes it one of that axis."""
     word = name.lower()
-    letters = set(re.split(r"[^a-z0-9]+", word)) & set(PLACES)
-    if letters:
-        return 1.0 if key in letters else 0.0
+    words = set(re.split(r"[^a-z0-9]+", word))
+    axes = [axis for axis in PLACES if words & set(USUAL[axis])]
+    if axes:
+        return 1.0 if key in axes else 0.0
     # of two letters or one nothing is like another, unless it is of x, y or z: NSR isn't like NS
     telling = [
         usual
