@@ -61,9 +61,7 @@ _FUNCTIONS: dict[str, tuple[int, _Operator]] = {
     "abs": (1, np.abs),
     "sqrt": (1, np.sqrt),
 }
-_PARTS = (
-    f"numbers as 2.5, 'words', columns, + - * / ** > >= < <= == != and or not, {', '.join(_FUNCTIONS)}"
-)
+_PARTS = f"numbers as 2.5, 'words', columns, + - * / ** > >= < <= == != and or not, {', '.join(_FUNCTIONS)}"
 _LONGEST = 2000
 
 
