@@ -20,7 +20,7 @@ METALS = {
     "li2o": ("lithia", "%", "t", 15000),
     "pt": ("platinum", "g/t", "oz", 950),
 }
-# What a column's name says of its unit.
+# What a column's name says of its unit; opt does so beside a metal alone: PIT_OPT is no grade.
 _UNITS = {
     "ppb": "ppb",
     "ppm": "ppm",
@@ -30,6 +30,7 @@ _UNITS = {
     "perc": "%",
     "percent": "%",
     "kgt": "kg/t",
+    "opt": "oz/st",
 }
 _NAMES = {
     "cobre": "copper",
@@ -84,12 +85,13 @@ _STEADY = (
 
 def metal_of(column: str) -> tuple[str, str, str, float] | None:
     """The usual metal, units and price of a column's name, as CU_PCT, au_gpt, AUPPB, "Ag (g/t)",
-    ley_zn, "gold gpt" or CuT, total copper.
+    ley_zn, "gold gpt" or CuT, total copper. Cubic feet and yards, as "TF (cu ft/st)", are no copper.
 
-    >>> metal_of("CuT_pct")[0], metal_of("CUT"), metal_of("AU_CUT")[0]
-    ('copper', None, 'gold')
+    >>> metal_of("CuT_pct")[0], metal_of("CUT"), metal_of("AU_CUT")[0], metal_of("TF cu ft/st")
+    ('copper', None, 'gold', None)
     """
     column = re.sub(r"(?<![A-Za-z])CuT(?![A-Za-z])", "Cu", column)
+    column = re.sub(r"(?i)(?<![a-z])cu[\W_]*(ft|feet|foot|yds?|yards?)(?![a-z])", "", column)
     words = re.split(r"[^a-z0-9]+", column.lower())
     bare = [
         word.removesuffix(next((unit for unit in _UNITS if word.endswith(unit)), ""))
@@ -101,18 +103,22 @@ def metal_of(column: str) -> tuple[str, str, str, float] | None:
 def unit_of(column: str) -> str | None:
     """The unit of a grade that a column's name says; None where it says none.
 
-    >>> unit_of("AU_PPB"), unit_of("CUPCT"), unit_of("Ag (g/t)"), unit_of("CU")
-    ('ppb', '%', 'g/t', None)
+    >>> unit_of("AU_PPB"), unit_of("CUPCT"), unit_of("Ag (g/t)"), unit_of("Au opt"), unit_of("CU")
+    ('ppb', '%', 'g/t', 'oz/st', None)
     """
     name = column.lower()
-    spelt = next((unit for unit in ("kg/t", "g/t", "mg/kg", "%") if unit in name), None)
+    units = ("kg/t", "g/t", "mg/kg", "oz/st", "lb/st", "%")
+    spelt = next((unit for unit in units if unit in name), None)
     words = re.split(r"[^a-z0-9]+", name)
     return spelt or next(
         (
             _UNITS[unit]
             for word in words
             for unit in _UNITS
-            if word == unit or word.endswith(unit) and word.removesuffix(unit) in METALS
+            if word == unit
+            and (unit != "opt" or metal_of(column))
+            or word.endswith(unit)
+            and word.removesuffix(unit) in METALS
         ),
         None,
     )

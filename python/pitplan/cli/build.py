@@ -47,7 +47,8 @@ def init(
     from ..study.first_look import look_at, unused_grades, written
     from ..study.building import near
 
-    look = look_at(table, dict(map(_named, column)), encoding)
+    typed = ([] if folder is None else ["--study", str(folder)]) + ["--force"] * is_forced
+    look = look_at(table, dict(map(_named, column)), encoding, typed=typed)
     folder = folder or Path(table.name.removesuffix(".gz").removesuffix(".csv"))
     path = folder / "study.toml"
     _make_folder(folder, path.exists() and not is_forced)

@@ -6,6 +6,7 @@ import fcntl
 import hashlib
 import os
 import re
+import shlex
 import tomllib
 import traceback
 from collections.abc import Iterator
@@ -93,7 +94,10 @@ class Folder:
         """The tables of the folder."""
         files = [path for path in sorted(self.root.iterdir()) if _NAME.fullmatch(path.name)]
         tables = [path for path in files if path.name.lower().endswith(TABLES) and path.is_file()]
-        return [_facts_of(path, path.name) for path in tables]
+        return [
+            {**_facts_of(path, path.name), "typed": shlex.join(["pitplan", "init", path.name])}
+            for path in tables
+        ]
 
     def table_of(self, study: Path) -> Path | None:
         """The study's table; None where study.toml doesn't say it. Raises Refused where it lies outside."""

@@ -29,7 +29,7 @@ from ..schedule.last_plan import plan_said
 from ..schedule.terms import wrong_terms
 from ..study.building import near
 from ..study.check import check as checked, model_of
-from ..study.first_look import GRADE, look_at, metal_in, named_grades, written
+from ..study.first_look import GRADE, NO_WEIGHT, look_at, metal_in, named_grades, written
 from ..study.strange_inputs import of_walls
 from ..study.study import Study
 from ..slopes.slopes import walls_of
@@ -107,6 +107,8 @@ def look(study: Path) -> _Json:
     each = [*found.grades, GRADE]
     metals = tomllib.loads(f"metals = [{''.join(map(metal_in, each))}]")["metals"]
     answer = {name: getattr(found, name) for name in _LOOKED}
+    if model.get("tonnes"):
+        answer["notes"] = [it for it in found.notes if not it.startswith(NO_WEIGHT)]
     answer["size"] = found.size and list(found.size)
     if isinstance(skip := model.get("skip"), int):
         answer["rows"] += found.dialect.skip - skip
@@ -274,7 +276,7 @@ def ground(study: Path, what: str) -> bytes:
 def _png(figure: Any) -> bytes:
     """A figure as a file of pixels."""
     image = io.BytesIO()
-    figure.savefig(image, format="png", dpi=120)
+    figure.savefig(image, format="png", dpi=120, bbox_inches="tight")  # with all of a legend
     return image.getvalue()
 
 

@@ -35,6 +35,7 @@ from ..table.csv_text import (
     numbers_among,
     numbers_and_grids,
     read_frame,
+    said_of_skipped,
 )
 from ..base.units import Units
 from ..table.wrong_values import refuse_wrong
@@ -272,7 +273,7 @@ def read_with(path: Path, keys: TableKeys) -> Model:
     names = with_few_classes(names, keys.columns, lambda name: int(frame[name].nunique()))
     notes = ["columns: " + ", ".join(f"{key} = {name}" for key, name in names.items())]
     if dialect.skip:
-        notes.append(f"{dialect.skip} lines below the header hold no blocks")
+        notes.append(said_of_skipped(dialect.skip))
     rows = int(frame.index[-1]) + 1
     places, size = _places_of(frame, names, keys, table, notes)
     unweighed = _without_weight(frame, names, keys)

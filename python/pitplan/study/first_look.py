@@ -5,6 +5,7 @@ from __future__ import annotations
 import math
 import re
 import tomllib
+import unicodedata
 from collections.abc import Iterator, Mapping, Sequence
 from dataclasses import dataclass, field
 from keyword import iskeyword
@@ -30,6 +31,7 @@ from ..table.csv_text import (
     number_column,
     numbers_and_grids,
     read_frame,
+    said_of_skipped,
 )
 from ..table.formula import text_of
 from ..table.marks import LIMIT, MARKS, are_limits, is_of_numbers
@@ -37,6 +39,7 @@ from ..table.share_columns import is_part, remedy_of_part
 from .study_template import aligned, metal, template
 
 _UTF_8 = Dialect().encoding
+NO_WEIGHT = "no column of tonnes or density was found"
 GRADE = "GRADE"  # a column of a grade where none is found
 _MOSTLY = (
     0.9  # the share of numbers from which a column is one of numbers with a few words among them
@@ -119,6 +122,7 @@ def look_at(
     given: Mapping[str, str] | None = None,
     encoding: str | None = None,
     advice: str | None = None,
+    typed: Sequence[str] = (),
 ) -> _Look:
     """Looks at a table of blocks.
 
@@ -132,6 +136,8 @@ def look_at(
         Where it isn't UTF-8.
     advice : str, optional
         What to try where columns aren't known. Default: the command that names them.
+    typed : sequence of str, optional
+        Further words of that command, as they were typed.
 
     Raises
     ------
@@ -149,6 +155,7 @@ def look_at(
             "init",
             ".",
             str(table),
+            *typed,
             *said,
             *(
                 word
@@ -184,7 +191,7 @@ def look_at(
         look.airs = _airs_among(frame, names, look.absent)
     look.notes += _not_found(names)
     if dialect.skip:
-        look.notes.append(f"{dialect.skip} lines below the header hold no blocks")
+        look.notes.append(said_of_skipped(dialect.skip))
     return look
 
 
@@ -192,8 +199,8 @@ def _not_found(names: Mapping[str, str]) -> Iterator[str]:
     """What is said of columns that aren't there by any name that is looked for."""
     if not {"tonnes", "density"} & set(names):
         yield (
-            "no column of tonnes or density was found: name it in columns; names that are looked for:"
-            f" {known_as('tonnes', 'density')}"
+            f"{NO_WEIGHT}: name it in columns, or say tonnes by a formula in [model]; names that are"
+            f" looked for: {known_as('tonnes', 'density')}"
         )
     if "rock" not in names:
         yield (
@@ -325,7 +332,9 @@ def _regions_in(frame: pd.DataFrame, look: _Look) -> tuple[str, list[str]]:
 
 def _rank_of_region(name: str) -> int:
     """How likely a name is that of a column of regions: the least is the likeliest."""
-    return next((at for at, part in enumerate(REGIONS) if part in name.lower()), len(REGIONS))
+    letters = unicodedata.normalize("NFKD", name.lower())
+    plain = "".join(letter for letter in letters if not unicodedata.combining(letter))
+    return next((at for at, part in enumerate(REGIONS) if part in plain), len(REGIONS))
 
 
 def _are_codes(values: pd.Series, there: Sequence[str]) -> bool:

@@ -265,7 +265,8 @@ USUAL: dict[str, tuple[str, ...]] = {
 MOST_CLASSES = (
     12  # of resources: a column with more words says something else, unless the planner names it
 )
-# Parts of names of columns that say in which region of slopes a block is, the likeliest first.
+# Parts of names of columns that say in which region of slopes a block is, the likeliest first,
+# without accents.
 REGIONS = (
     "sector",
     "setor",
@@ -278,7 +279,7 @@ REGIONS = (
     "wall",
     "pared",
     "region",
-    "região",
+    "regiao",
     "dominio",
     "domain",
     "zona",
@@ -327,6 +328,13 @@ def which_columns(
                     f"there is no column {name!r} for {key}{meant(name, header)}",
                     table=table,
                 ).with_swap(swap_of(name, header))
+            twice = [axis for axis in PLACES if key in PLACES and given.get(axis) == name]
+            if len(twice) > 1:
+                raise PlanError(
+                    f"column {name!r} is named for {' and '.join(twice)}",
+                    table=table,
+                    try_this="a column of its own for each of x, y and z",
+                )
     wrong.tell()
     found = columns_found(header, given)
     missing = [key for key in PLACES if key not in found]
@@ -427,12 +435,14 @@ def said_of_misnamed(columns: Mapping[str, str], wrong: Mapping[str, str]) -> tu
 def nearest(missing: Sequence[str], names: Mapping[str, bool]) -> dict[str, str]:
     """For each of x, y and z the name that looks most like one of its usual names, each name once;
     two points where none does. `names` are those of columns of numbers, each with whether these are
-    spaced as a grid: one without x, y or z as a word of its own isn't offered else.
+    spaced as a grid: one without a usual name as a word of its own isn't offered else.
 
-    >>> nearest(["x", "y"], {"EASTINGS_": False, "Y_LOCAL": True, "X_LOCAL": False})
+    >>> nearest(["x", "y"], {"LENGTH": False, "Y_LOCAL": True, "X_LOCAL": False})
     {'x': 'X_LOCAL', 'y': 'Y_LOCAL'}
     >>> nearest(["y", "z"], {"NSR": True, "R": True, "NORDWERT": True})
     {'y': 'NORDWERT', 'z': '..'}
+    >>> nearest(["y", "z"], {"Centroid Elev (ft)": False, "Centroid North (ft)": False})
+    {'y': 'Centroid North (ft)', 'z': 'Centroid Elev (ft)'}
     """
     found: dict[str, str] = {}
     for key in missing:
@@ -447,12 +457,13 @@ def nearest(missing: Sequence[str], names: Mapping[str, bool]) -> dict[str, str]
 
 
 def _alike(key: str, name: str, is_grid: bool) -> float:
-    """How much a name looks like the usual names of a key, from 0 to 1; x, y or z as a word of its
-    own makes it one of that axis, and else its column has to be spaced as a grid."""
+    """How much a name looks like the usual names of a key, from 0 to 1; a usual name of x, y or z as
+    a word of its own makes it one of that axis, and else its column has to be spaced as a grid."""
     word = name.lower()
-    letters = set(re.split(r"[^a-z0-9]+", word)) & set(PLACES)
-    if letters or not is_grid:
-        return 1.0 if key in letters else 0.0
+    words = set(re.split(r"[^a-z0-9]+", word))
+    axes = [axis for axis in PLACES if words & set(USUAL[axis])]
+    if axes or not is_grid:
+        return 1.0 if key in axes else 0.0
     # of two letters or one nothing is like another: NSR isn't like NS; nor is a name without x
     # like one that says x by that letter alone: MERID isn't like mid_x
     telling = [

@@ -630,6 +630,15 @@ def _too_long(path: Path, dialect: Dialect, width: int) -> PlanError:
     return PlanError("has rows with more cells than the header line", table=path)
 
 
+def said_of_skipped(skip: int) -> str:
+    """What is said of lines between the header line and the first block."""
+    return (
+        f"{skip} lines below the header hold no blocks"
+        if skip > 1
+        else "1 line below the header holds no block"
+    )
+
+
 def _without_ends(frame: pd.DataFrame, names: Sequence[str], path: Path, skip: int) -> pd.DataFrame:
     """The table without the empty column that a separator at the end of each row makes; `skip`
     lines below the header hold no blocks."""

@@ -61,9 +61,7 @@ _FUNCTIONS: dict[str, tuple[int, _Operator]] = {
     "abs": (1, np.abs),
     "sqrt": (1, np.sqrt),
 }
-_PARTS = (
-    f"numbers, 'words', columns, + - * / ** > >= < <= == != and or not, {', '.join(_FUNCTIONS)}"
-)
+_PARTS = f"numbers as 2.5, 'words', columns, + - * / ** > >= < <= == != and or not, {', '.join(_FUNCTIONS)}"
 _LONGEST = 2000
 
 
@@ -147,7 +145,10 @@ def _given(
         with np.errstate(all="ignore"):
             found = reading.value(tree.body)
     except (SyntaxError, RecursionError, MemoryError, ValueError):
-        raise PlanError(f"{stated} is no formula{_single_sign(text)}", try_this=_PARTS) from None
+        raise PlanError(
+            f"{stated} is no formula{_single_sign(text)}",
+            try_this=_with_spelled_columns(text, table) or _PARTS,
+        ) from None
     except (TypeError, OverflowError):
         reading.tell_words()
         raise PlanError(f"{stated} counts with words") from None
@@ -202,6 +203,15 @@ def _spelled_column(name: str) -> str:
     ('ZC', "column('AU g/t')")
     """
     return name if name.isidentifier() else f"column({name!r})"
+
+
+def _with_spelled_columns(text: str, table: pd.DataFrame) -> str | None:
+    """A text whose columns are spelled as in a formula, where that makes it one: "1 + AU g/t" is
+    "1 + column('AU g/t')"."""
+    names = sorted((str(n) for n in table.columns if not str(n).isidentifier()), key=len)
+    plain = "|".join(re.escape(name) for name in reversed(names) if len(name) > 1)
+    spelled = re.sub(plain, lambda found: _spelled_column(found[0]), text) if plain else text
+    return spelled if spelled != text and is_formula(spelled) else None
 
 
 def _single_sign(text: str) -> str:

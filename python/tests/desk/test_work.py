@@ -8,6 +8,8 @@ from pathlib import Path
 
 import ezdxf
 import pytest
+from matplotlib.colors import to_rgb
+from matplotlib.image import imread
 
 pytest.importorskip("starlette")
 from starlette.applications import Starlette
@@ -567,3 +569,39 @@ def test_the_processes_of_a_desk_that_is_killed_end_and_not_with_the_thread_that
     assert first == second
     desk.kill()
     assert gone([first], 60)
+
+
+def test_the_key_of_the_rose_has_each_region(desk):
+    """Below the walls stands a line for each: its colours by matplotlib's own names."""
+    begun(desk, "four")
+    path = desk.root / "four" / "study.toml"
+    four = """angles = 44
+by = "where(ZC < 1040, 'LOW', SECTOR)"
+regions = { NORTH = 38, SOUTH = 40, LOW = 42 }"""
+    path.write_text(re.sub(r"(?m)^angles = .*$", four, path.read_text()))
+    image = imread(io.BytesIO(work.rose_picture(desk.root / "four")))[..., :3]
+    key = image[-len(image) // 8 :].reshape(-1, 3)
+    for colour in ("C0", "C1", "C2", "C3"):
+        assert (abs(key - to_rgb(colour)).max(axis=1) < 0.02).any(), colour
+
+
+def test_tonnes_by_a_formula_are_not_missed(desk):
+    """A table with neither tonnes nor density is told, until a formula says what blocks weigh."""
+    (desk.root / "heavy.csv").write_text(HILL.replace(",SG,", ",FACTOR,", 1))
+    columns = {"x": "XC", "y": "YC", "z": "ZC"}
+    begun(desk, "heavy", "heavy.csv", columns=columns)
+    path = desk.root / "heavy" / "study.toml"
+
+    def missed():
+        return [it for it in work.look(path.parent)["notes"] if "tonnes or density" in it]
+
+    assert len(missed()) == 1
+    path.write_text(path.read_text().replace("\nsize", '\ntonnes = "FACTOR * 4000"\nsize', 1))
+    assert not missed()
+
+
+def test_a_table_whose_name_has_a_blank_is_typed_as_a_shell_takes_it(desk):
+    (desk.root / "big hill.csv").write_text(HILL)
+    typed = {it["path"]: it["typed"] for it in desk.get("/api/folder").json()["tables"]}
+    assert typed["big hill.csv"] == "pitplan init 'big hill.csv'"
+    assert typed["hill.csv"] == "pitplan init hill.csv"

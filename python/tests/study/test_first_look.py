@@ -83,6 +83,7 @@ def test_init_offers_no_mark_where_a_place_is_none(tmp_path):
         ("SECTOR", None, ("SECTOR", ["EAST", "WEST"])),
         ("Dominio geotécnico", None, ("Dominio geotécnico", ["EAST", "WEST"])),
         ("GEOTECH", [1, 2, None], ("GEOTECH", ["1", "2"])),
+        ("Géotech Dom.", None, ("Géotech Dom.", ["EAST", "WEST"])),
         ("CLASS", None, ("", [])),
         ("SECTOR", [f"S{n}" for n in range(13)], ("", [])),
         ("SECTOR", ["all"], ("", [])),
@@ -277,3 +278,17 @@ def test_classes_that_begin_with_less_than_are_words(tmp_path):
     look = first_look.look_at(tmp_path / "t.csv")
     assert look.grades == ["CU", "AU"]
     assert (look.absent, look.notes) == ([], [])
+
+
+def test_a_tonnage_factor_in_cubic_feet_is_no_copper(tmp_path):
+    """Columns as a package of short tons names them: what is tried keeps the words that were typed."""
+    names = {"XC": "East (ft)", "YC": "North (ft)", "ZC": "Elev (ft)", "TONNES": "TF cu ft/st"}
+    frame = table(5, 4, 3, 3).rename(columns={**names, "CU": "Ag opt"})
+    frame.to_csv(tmp_path / "t.csv", index=False)
+    asked = pitplan("init", "t.csv", "--study", "my mine", cwd=tmp_path)
+    words = "init t.csv --study 'my mine' --column 'x=East (ft)' --column 'y=North (ft)'"
+    assert words in asked.stderr
+    given = dict(x="East (ft)", y="North (ft)", z="Elev (ft)")
+    look = first_look.look_at(tmp_path / "t.csv", given)
+    assert "copper" not in first_look.written(look, "t.csv")
+    assert 'grade = "Ag opt", grade_unit = "oz/st"' in first_look.written(look, "t.csv")

@@ -124,3 +124,10 @@ def test_the_usual_spanish_names_of_ids_and_rocks():
         "density": "DENS",
         "rock": "LITO",
     }
+
+
+def test_a_column_is_one_axis_alone():
+    given = {"x": "E", "y": "RL m", "z": "RL m"}
+    with pytest.raises(PlanError, match="column 'RL m' is named for y and z") as told:
+        which_columns(["E", "N", "RL m"], given, "t.csv")
+    assert told.value.key == ("model", "columns", "y")

@@ -224,7 +224,7 @@ def test_a_row_with_a_cell_too_many_is_told_below_lines_that_hold_no_blocks(tmp_
 def test_lines_that_were_passed_over_are_told(tmp_path):
     lines = table(4, 3, 3, 1).to_csv(index=False).splitlines(keepends=True)
     assert (
-        "1 lines below the header hold no blocks"
+        "1 line below the header holds no block"
         in read(
             tmp_path, None, text="".join([lines[0], "-,m,m,m,t,%,g/t,-,-\n", *lines[1:]]).encode()
         ).notes

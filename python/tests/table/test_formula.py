@@ -117,3 +117,17 @@ def test_a_formula_compares_two_columns_of_words_without_the_blanks_around_them(
         worked_out("OLD != NEW", model_of(frame).blocks, "").tolist()
         == (frame.OLD.str.strip() != frame.NEW).tolist()
     )
+
+
+@pytest.mark.parametrize(
+    "text, said",
+    [
+        ("1 + AU g/t", "try: 1 + column('AU g/t')"),
+        ("1 + AU g/t + (2", "try: numbers as 2.5, 'words', columns"),
+        ("1,5 * XC", "try: numbers as 2.5, 'words', columns"),
+    ],
+)
+def test_what_is_no_formula_is_told_how_to_be_one(text, said, frame):
+    """By a column whose name is no plain word, and by a comma in a decimal."""
+    named = frame.rename(columns={"CU": "AU g/t"})
+    assert said in refusal(worked_out, text, named, "mining")

@@ -616,6 +616,29 @@ def test_a_block_is_told_by_keys(pits_view, shells, phases, compared):
         assert shown.endswith("no rock" if block.empty else kinds[block.index[0]]), (shown, ix, iy)
 
 
+def test_elevations_are_in_the_units_of_the_coordinates(tmp_path):
+    """Of a model in feet: beside the picture, of a cut, of a block and under the pointer."""
+    feet = shells_of(tmp_path, series=[1000], units={"length": "ft"})
+    browser = chromium()
+    try:
+        opened(browser, page.write(feet, tmp_path / "p.html"))
+        cut(browser, "z", 3)
+        browser.find_element(By.ID, "profile").send_keys(Keys.ARROW_UP)
+        browser.execute_script(
+            """const to = document.querySelector("canvas"), at = to.getBoundingClientRect();
+            to.dispatchEvent(new PointerEvent("pointermove",
+              { clientX: at.left + at.width / 2, clientY: at.top + at.height / 2 }));"""
+        )
+        marks = browser.find_elements(By.CLASS_NAME, "mark")
+        toes = [mark.get_attribute("textContent") for mark in marks[4:6]]
+        assert toes == ["92.5 ft –", "107.5 ft –"]
+        assert text_of(browser, "where") == "bench 137.5 (toe) to 152.5 ft (crest), level 3"
+        assert " N, 145 ft. " in text_of(browser, "there")
+        assert re.search(r" N, [\d.,]+ ft$", text_of(browser, "here"))
+    finally:
+        browser.quit()
+
+
 def test_black_and_white_tells_kinds_apart(all_views, shells, phases, compared):
     """Patterns differ from kind to kind, on the colours and in the key; of many kinds the colours
     go from dark to light."""

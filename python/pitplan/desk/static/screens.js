@@ -55,7 +55,7 @@ function naming() {
   return card(n.table, n.errors.map(faultBox), n.header && [
     h("div.grid", D.home.keys.find(k => k.kind === "columns").choices.map(box)),
     !n.columns.tonnes && !n.columns.density && look(
-      "No column is known as tonnes or density: choose one of the two.")],
+      "No column is known as tonnes or density: choose one of the two, or go on and say tonnes by a formula.")],
   boxes(n, { ...(n.asks === "encoding" && { encoding: ["encoding", { placeholder: "cp1252" }] }),
     name: ["the study's name", {}] }), button("Go on", goOn, { className: "main", id: "named" }));
 }
@@ -66,7 +66,7 @@ export function home() {
     s.worth ? `${number(s.worth / 1e6, 1)} million ${s.currency}` : "", s.plan && chip(...s.plan),
     s.when && when(s.when), small("copy", () => copy(s.name), `copy ${s.name}`)]);
   const tables = D.home.tables.map(t => [t.path, size(t.bytes), when(t.when), small(
-    "begin a study", () => begin({ table: t.path })), h("code.typed", `pitplan init ${t.path}`)]);
+    "begin a study", () => begin({ table: t.path })), h("code.typed", t.typed)]);
   return [dropPlace("Drop a table of blocks here", ".csv,.gz", taken), D.naming && naming(),
     studies.length > 0 && card("Studies", table(["study", "how far", "blocks", "best pit, blocks",
       "worth", "plan by years", "changed", ""], studies, { words: 2 })),
@@ -93,7 +93,8 @@ function tableScreen() {
   const blocks = isRead && `${number(check.blocks)} blocks of ${check.size.join(" x ")} on a grid of
     ${check.shape.join(" x ")}.`;
   const notes = [...unused(), ...(seen?.notes ?? []).map(n => h("li.look", n)),
-    ...(check?.notes ?? []).filter(n => !n.startsWith("columns:")).map(n => h("li", n))];
+    ...(check?.notes ?? []).filter(n => !n.startsWith("columns:")
+      && !seen?.notes?.includes(n)).map(n => h("li", n))];
   return [banner(), h("div.two",
     h("div", card("The table", seen?.rows ? h("p", h("b", number(seen.rows)), " rows. ", blocks)
       : tip(seen ? LATER : "is looked at ..."), looks(notes), fields("model", n => n === "table")),
