@@ -205,3 +205,12 @@ def test_an_amount_is_the_nearest_multiple_of_what_it_is_rounded_to(ours, theirs
     """In whole units: 101 is nearer than a unit to 100.4, and isn't what that is rounded to."""
     of = SimpleNamespace(rounding=1.0)
     assert recheck.Economics.is_near(of, ours, theirs * 10**6) == holds
+
+
+@pytest.mark.parametrize("first, holds", [(600, True), (800, True), (1000, False), (0, False)])
+def test_what_a_block_rests_on_is_dug_with_it_or_before(first, holds):
+    """Of a block of the pit at 0.8 and the one above it: by that first pit, or by none."""
+    blocks, said = SimpleNamespace(above=lambda block: [1] if block == 0 else []), []
+    report = SimpleNamespace(check=lambda holds, what: said.append(holds))
+    recheck.check_closed(report, blocks, [800, first])
+    assert said == [holds]
