@@ -53,16 +53,3 @@ def test_a_worth_that_has_room_at_the_full_price_alone_is_refused_above_it():
     assert one.worth_of(np.array(here), 1000) == "1000000000000000"
     with pytest.raises(PlanError, match="too large to count with in units of 1"):
         one.worth_of(np.array(here), 10_000)
-
-
-def test_feed_of_a_block_that_gains_by_two_processes_is_told_of_each():
-    """By hand: 100 t, half of them ore; a tonne of ore is 1.5 t of the mill's feed and 2 t of the
-    leach's. The mill gains more."""
-    ways = (
-        Way("mill", np.array([9]), np.array([4]), feed=1.5),
-        Way("leach", np.array([5]), np.array([4]), feed=2.0),
-    )
-    priced, tonnes = Priced(ways, np.array([1]), part=np.array([0.5])), np.array([100.0])
-    assert np.concatenate(priced.feeds_gained(tonnes, 1000)).tolist() == [75, 100]
-    assert np.concatenate(priced.feeds_of(tonnes, 1000)).tolist() == [75, 0]
-    assert np.concatenate(priced.feeds_gained(tonnes, 600)).tolist() == [75, 0]
