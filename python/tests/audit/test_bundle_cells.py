@@ -361,6 +361,7 @@ MADE_OF = f"{MANIFEST} has the metals and the waste_classes of study.toml"
         (of_json("facts.json", "dialect", quote="'"), "facts.json: dialect, 'quote'"),
         (of_json("facts.json", "columns", grade="CU"), "facts.json: columns, 'grade'"),
         (of_json("facts.json", "grid", shape=[9, 9, 9]), "the grid and the columns are those of"),
+        (of_json("facts.json", depth=True), "the grid and the columns are those of"),
         (of_json("facts.json", pitplan=7), "facts.json: pitplan is 7, and has to be words"),
         (of_json(MANIFEST, notes=["reviewed"]), f"{KEYS}: not so for {MANIFEST}: 'notes'"),
         (of_json(MANIFEST, "source", path="/a"), f"{MANIFEST}: source, 'path'"),

@@ -7,6 +7,7 @@ import shutil
 import subprocess
 import sys
 from pathlib import Path
+from types import SimpleNamespace
 
 import mines
 import numpy as np
@@ -128,3 +129,43 @@ def test_recheck_refuses_a_plan_that_was_changed(bundle, tmp_path, name, change)
     lines, status = rechecked(folder)
     assert status == 1
     assert any("pit schedule of the plan" in line for line in lines), lines
+
+
+def test_a_bound_at_another_price_than_its_pit_is_refused(tmp_path):
+    """By hand, one block that brings 10 and costs 2, dug in one period: in full it is worth 8, and at
+    0.9 of the price 7. It is a pit at both."""
+    texts = {
+        "b": "0 0 0 0 10 2",
+        "s": "revenue = 0\ncost = 1\nslopes = [[[0, 0, 1]]]",
+        "u": "0 0 0 0 1000",
+        "p": "weights = [1000000]\nresources = [0]\ncapacities = [[5000]]\nmultipliers = [[0]]",
+        **{
+            f"{group}{price}": f"PITCERT 1\nBLOCKS 1\nPRICE {price}\nGROUP {group}\nPIT 0\nEND"
+            for group in ("PAIR", "WORTH")
+            for price in (900, 1000)
+        },
+    }
+    for name, text in texts.items():
+        (tmp_path / name).write_text(text + "\n")
+    files = {"--blocks": "b", "--settings": "s", "--uses": "u", "--periods": "p"}
+    words = [word for key, name in files.items() for word in (key, tmp_path / name)]
+    other = "fault: certificate WrongPrice", 3
+    for pit, price, said in (
+        (900, 900, ("BOUND 7", 0)),
+        (1000, 1000, ("BOUND 8", 0)),
+        (900, 1000, other),
+        (1000, 900, other),
+    ):
+        found = plain(*words, "--pit", tmp_path / f"PAIR{pit}", tmp_path / f"WORTH{price}")
+        assert found == said, (pit, price)
+
+
+@pytest.mark.parametrize("lag, late", [(1, {(2, 1), (4, 3)}), (2, {(4, 1)})])
+def test_a_node_waits_for_that_of_so_many_periods_before_alone(lag, late):
+    """By hand: in three periods block 0 has the nodes 0, 2 and 4, and waits for block 1."""
+    rests = SimpleNamespace(of=lambda block: [], has=lambda block, other: False)
+    periods = SimpleNamespace(lag=lag, waits=[{1}, set()], weights=[3, 2, 1])
+    nodes = plainly.Nodes(SimpleNamespace(rests=rests, count=2), periods, None)
+    pairs = {(node, other) for node in range(6) for other in range(6) if nodes.has(node, other)}
+    assert pairs == late | {(0, 2), (2, 4), (1, 3), (3, 5)}
+    assert pairs == {(node, other) for node in range(6) for other in nodes.of(node)}

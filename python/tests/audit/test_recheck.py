@@ -128,3 +128,89 @@ def test_a_wall_errs_at_any_bearing(angles, size, rotation):
 def test_recheck_refuses_such_a_series_too(step):
     with pytest.raises(recheck.Bad, match="is no series"):
         recheck.series({"from": 0.3, "to": 1.2, "step": step})
+
+
+FACTS = {
+    "table": "t.csv",
+    "dialect": {"separator": ",", "decimal": ".", "encoding": "utf-8", "skip": 0},
+    "grid": {"origin": [0, 0, 0], "size": [20, 20, 10], "rotation": 0},
+    "columns": {**dict(zip(("x", "y", "z", "dx", "dy", "dz"), "XYZABC")), "tonnes": "T"},
+    "depth": False,
+}
+
+
+def in_a_bundle(folder, monkeypatch, table, study=""):
+    """A folder with this table and this study.toml."""
+    (folder / "t.csv").write_text(table)
+    (folder / "study.toml").write_text(study)
+    monkeypatch.setattr(recheck, "HERE", folder)
+
+
+@pytest.mark.parametrize(
+    "upper, fault",
+    [
+        ("2.5,20,20,5", None),
+        ("2,20,20,6", "the sub-blocks of the block of row 2 fill 1.100 of it"),
+        ("3,20,20,5", "row 3 lies over a side of its block"),
+    ],
+)
+def test_sub_blocks_that_fill_more_than_their_block_are_wrong(tmp_path, monkeypatch, upper, fault):
+    """By hand: a block 10 m high, of which the lower half is one of two parts."""
+    table = f"X,Y,Z,A,B,C,T\n0,0,-2.5,20,20,5,1\n0,0,{upper},1\n"
+    in_a_bundle(tmp_path, monkeypatch, table)
+    assert recheck.AddedUp(FACTS, [], set()).fault() == fault
+
+
+@pytest.mark.parametrize(
+    "passed, said",
+    [
+        ("east,north,up", "1 lines below the header are descriptions and no blocks"),
+        (
+            "m,m,m\n0,0,0",
+            "2 lines below the header are descriptions and no blocks: not so in row 3",
+        ),
+    ],
+)
+def test_a_block_among_descriptions_that_are_passed_over_is_told(
+    tmp_path, monkeypatch, passed, said
+):
+    in_a_bundle(tmp_path, monkeypatch, f"X,Y,Z\n{passed}\n20,0,0\n")
+    facts = FACTS | {"columns": dict(zip("xyz", "XYZ"))}
+    facts["dialect"] = FACTS["dialect"] | {"skip": passed.count("\n") + 1}
+    lines = []
+    report = SimpleNamespace(check=lambda holds, what: lines.append((holds, what)))
+    recheck.check_passed(report, recheck.Table(facts, []), facts)
+    assert lines == [("not so" not in said, said)]
+
+
+def test_what_a_block_brings_and_costs_in_another_currency(tmp_path, monkeypatch):
+    """By hand: 1,000 t of 2 % copper, half of it recovered, 10 t; of which each is sold for 100 EUR,
+    and for 20 EUR of costs. A euro is 1.25 dollars."""
+    in_a_bundle(tmp_path, monkeypatch, "X,Y,Z,T,CU\n0,0,0,1000,2\n")
+    facts = FACTS | {"columns": {"x": "X", "y": "Y", "z": "Z", "tonnes": "T"}}
+    copper = {"name": "copper", "grade": "CU", "price": 100, "selling": 20, "recovery": 0.5}
+    plan = {"metals": [copper | {"currency": "EUR"}], "mining": 1, "processing": 3}
+    plan |= {"exchange": {"EUR": 1.25}}
+    found = recheck.Economics(plan, recheck.Table(facts, []), facts).of_row(0)
+    (way,) = found.ways
+    assert (way.revenue, way.processing) == pytest.approx((1250, 3000 + 250))
+    assert (found.mining, way.metals["copper"]) == pytest.approx((1000, 10))
+
+
+@pytest.mark.parametrize(
+    "ours, theirs, holds",
+    [(100.4, 100, True), (100.4, 101, False), (100.5, 101, True), (100.6, 100, False)],
+)
+def test_an_amount_is_the_nearest_multiple_of_what_it_is_rounded_to(ours, theirs, holds):
+    """In whole units: 101 is nearer than a unit to 100.4, and isn't what that is rounded to."""
+    of = SimpleNamespace(rounding=1.0)
+    assert recheck.Economics.is_near(of, ours, theirs * 10**6) == holds
+
+
+@pytest.mark.parametrize("first, holds", [(600, True), (800, True), (1000, False), (0, False)])
+def test_what_a_block_rests_on_is_dug_with_it_or_before(first, holds):
+    """Of a block of the pit at 0.8 and the one above it: by that first pit, or by none."""
+    blocks, said = SimpleNamespace(above=lambda block: [1] if block == 0 else []), []
+    report = SimpleNamespace(check=lambda holds, what: said.append(holds))
+    recheck.check_closed(report, blocks, [800, first])
+    assert said == [holds]

@@ -17,6 +17,7 @@ import mines
 import numpy as np
 import pytest
 from bundles import bundled, rechecked, summed, with_schedule
+from pitplan.audit import recheck_schedule
 from pitplan.schedule import pit_schedule, plan as of_plan
 
 RICH = mines.STUDY_TOML.replace("price = 8500", "price = 24000").replace(
@@ -408,3 +409,39 @@ def test_a_schedule_that_was_found_by_other_terms_is_told(tmp_path, monkeypatch,
     assert status == 1, said
     assert re.search(words, said), said
     assert said.startswith("WRONG"), said
+
+
+def flow(folder, monkeypatch, lines, lag=1):
+    """What a flow takes from the source: two units in three periods, the first of which waits for the
+    second. By the end of the last period the first is worth 5, and the second costs 5 by that of each
+    before."""
+    (folder / "schedule").mkdir()
+    text = "".join(f"{line}\n" for line in [*lines, "END"])
+    (folder / "schedule" / "bound.cert.gz").write_bytes(gzip.compress(text.encode()))
+    monkeypatch.setattr(recheck_schedule.recheck, "HERE", folder)
+    node = [(unit, t) for t in range(3) for unit in range(2)]
+    worths = [0, -5, 0, -5, 5, 0]
+    return recheck_schedule.flow_of(node, worths, [set(), set()], [{1}, set()], lag)
+
+
+@pytest.mark.parametrize("lag, to", [(1, 3), (2, 1)])
+def test_a_flow_by_hand_pays_for_what_a_unit_waits_for(tmp_path, monkeypatch, lag, to):
+    lines = ["SOURCE 4 5 0", f"REST 4 {to} 5 0", f"SINK {to} 2 0", f"SINK {to} 3 0"]
+    assert flow(tmp_path, monkeypatch, lines, lag) == 5
+
+
+@pytest.mark.parametrize(
+    "lines, words",
+    [
+        (["SOURCE 4 5 0", "REST 4 1 5 0", "SINK 1 5 0"], "from 4 to 1, which is no pair"),
+        (["SOURCE 4 5 0", "SINK 3 5 0"], "doesn't flow out of it"),
+        (["SOURCE 4 5 0", "REST 4 3 6 0", "SINK 3 3 0", "SINK 3 3 0"], "out of 3 than it costs"),
+        (["SOURCE 4 3 0", "SOURCE 4 3 0"], "into 4 than it is worth"),
+        (["SOURCE 4 5 0", "REST 3 4 5 0"], "from 3 to 4, which is no pair"),
+    ],
+)
+def test_a_flow_by_hand_that_is_none_is_told(tmp_path, monkeypatch, lines, words):
+    """Over two periods where one is asked for, that isn't handed on, or that passes in two lines what
+    a node has: each would make the bound too low."""
+    with pytest.raises(recheck_schedule.Wrong, match=words):
+        flow(tmp_path, monkeypatch, lines)

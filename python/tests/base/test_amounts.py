@@ -2,9 +2,11 @@
 from decimal import Decimal
 
 import numpy as np
+import pytest
 from hypothesis import given, strategies as st
 
 from pitplan.base.amounts import Priced, Way, exact_sum, rounding_of, spelled
+from pitplan.base.errors import PlanError
 
 
 @given(st.lists(st.integers(-(2**62), 2**62), max_size=50))
@@ -43,3 +45,11 @@ def test_spelled():
         "0.000000001",
     ]
     assert rounding_of(0.1) == Decimal("0.1")
+
+
+def test_a_worth_that_has_room_at_the_full_price_alone_is_refused_above_it():
+    """10^15 times 1,000 thousandths fits 64 bits, and times 10,000 it doesn't."""
+    one, here = Priced((Way("mill", np.array([10**15]), np.array([0])),), np.array([0])), [True]
+    assert one.worth_of(np.array(here), 1000) == "1000000000000000"
+    with pytest.raises(PlanError, match="too large to count with in units of 1"):
+        one.worth_of(np.array(here), 10_000)

@@ -125,3 +125,12 @@ def test_a_change_within_the_grain_of_the_clock_is_seen(tmp_path, monkeypatch):
 
 def test_what_counts_as_lately_is_more_than_the_grain_of_any_clock_for_files():
     assert digests.SETTLED >= 2 * 10**9
+
+
+def test_a_file_that_has_an_old_time_of_writing_since_a_moment_ago_isnt_known(tmp_path):
+    """As a copy that keeps the times: what changes it next may leave all that the system tells."""
+    path = tmp_path / "a"
+    path.write_bytes(b"first")
+    os.utime(path, (10**9, 10**9))
+    digests.sha256_unless_known(path)
+    assert path not in digests._known

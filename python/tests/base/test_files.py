@@ -35,6 +35,14 @@ def test_what_a_dead_process_left_half_done_goes(tmp_path):
     assert not half.exists()
 
 
+def test_what_a_process_of_another_machine_has_half_done_stays(tmp_path):
+    """Whether it still runs isn't known here, on a disk that machines share."""
+    half = tmp_path / f".model.elsewhere.{dead()}.0abc"
+    half.mkdir()
+    sweep(tmp_path, ".model.*")
+    assert half.exists()
+
+
 def test_a_folder_comes_in_place_of_another(tmp_path):
     work, place = tmp_path / ".model.x.1.a", tmp_path / "model"
     for folder, text in ((work, "after"), (place, "before")):

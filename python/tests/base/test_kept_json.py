@@ -5,6 +5,7 @@ import pytest
 
 import pitplan as pp
 from mines import shells_of
+from pitplan.base import kept_json
 from pitplan.plans import risk, vary
 
 
@@ -52,3 +53,9 @@ def test_what_was_asked_for_is_damaged_and_told(tmp_path, data):
         (study.folder / name).write_bytes(data)
         with pytest.raises(pp.PlanError, match="json is damaged"):
             asked(study)
+
+
+@pytest.mark.parametrize("value, holds", [(0, True), (10_000, True), (10_001, False), (-1, False)])
+def test_a_factor_is_one_that_pit_takes(value, holds):
+    """From 0 to ten times the price, in thousandths."""
+    assert kept_json.is_factor(value) == holds

@@ -1,6 +1,7 @@
 """Numbers typed with separators."""
 import pytest
 
+from pitplan.base.typed_numbers import typed_number
 from pitplan.table import wrong_values
 from pitplan.table.study_keys import METALS
 
@@ -40,3 +41,9 @@ def test_both_readings_of_amounts_by_rock_are_whole_tables():
 @pytest.mark.parametrize("value", ["ZC", "2.0, 3", "where(ROCK == 'OXI', 0.7, 0.8)", "1,2,3"])
 def test_a_formula_is_no_number_with_separators(value):
     assert wrong_values.wrong_in(METALS, {"recovery": value}) == []
+
+
+@pytest.mark.parametrize("text, value", [("-0,965", -0.965), ("+0,250", 0.25), ("-1,250", -1250)])
+def test_no_thousands_begin_with_0_below_0_either(text, value):
+    found = typed_number(text)
+    assert (found.value, found.other) == (value, None if "0," in text[:3] else -1.25)

@@ -1,11 +1,13 @@
-"""TODO"""
+"""What the program is given around it, and what of its words makes an `Accepted`."""
 import re
 from pathlib import Path
 
 import numpy as np
 import pytest
 
-from pitplan.pit.program import Accepted, Pit
+from certificates import HEAD
+from pitplan.base.errors import NotAccepted
+from pitplan.pit.program import Accepted, Files, Pit
 from processes import TOP
 
 LISTED = "#!/bin/sh\nexec %s --list-tunables\n"
@@ -43,3 +45,12 @@ def test_nobody_but_the_check_makes_an_accepted():
     assert len(makers) == 1
     assert makers[0][0] == "program.py"
     assert sum("BEGUN" in path.read_text() for path in (TOP / "python/pitplan").rglob("*.py")) == 1
+
+
+def test_a_pit_of_another_number_of_blocks_than_the_check_counts_is_no_accepted(tmp_path):
+    program, certificate = tmp_path / "pit", tmp_path / "c"
+    program.write_text("#!/bin/sh\ncat > /dev/null\necho ACCEPTED 3 5\n")
+    program.chmod(0o755)
+    certificate.write_bytes(HEAD + b"PIT 1\nPIT 2\nEND\n")
+    with pytest.raises(NotAccepted, match="counts 3 blocks, and the certificate has 2 PIT lines"):
+        Pit(program).check(Files(tmp_path / "b", tmp_path / "s"), certificate)

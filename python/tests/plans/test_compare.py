@@ -336,3 +336,13 @@ def test_the_figures_of_a_design_by_faces_come_out_by_another_way(tmp_path):
             assert benches[f"{name}_worth"][bench] == sum(worth[b] for b in here)
     assert f"{len(designed):,} blocks" in ran.stdout
     assert f"{sum(worth[b] for b in designed):,}" in ran.stdout
+
+
+def test_the_ore_of_a_bench_is_what_pays_at_the_factor_of_the_comparison(study):
+    """At 0.6 of the price, by the amounts that `pit` gets."""
+    left, way = study.mask(1000) & ~study.mask(600), study.priced.ways[0]
+    pays, pays_in_full = (way.revenue * factor > way.processing * 1000 for factor in (600, 1000))
+    assert (pays != pays_in_full)[left].any()
+    benches = compare.by_bench(study, study.mask(600), study.mask(1000), 600)
+    tonnes = study.model.blocks.TONNES
+    assert benches.left_ore_t.sum() == pytest.approx(tonnes[left & pays].sum())

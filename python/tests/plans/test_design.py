@@ -119,6 +119,30 @@ def test_a_block_is_in_a_design_where_any_of_its_sub_blocks_is(tmp_path, forbid)
         design.by_ids(made.model, ["b2"])
 
 
+def test_sub_blocks_in_another_order_than_when_they_were_built_are_no_design(tmp_path):
+    """As many rows, of which two have changed places: those of a design would be other blocks."""
+    folder = written_study(tmp_path / "s", HALVES, HALVES_TOML)
+    commands_build.build(folder)
+    HALVES.iloc[[0, 3, 2, 1, 4]].to_csv(folder / "t.csv", index=False)
+    with pytest.raises(pp.PlanError, match="isn't the table that the study was built from"):
+        design.with_sub_blocks(pp.Study(folder))
+
+
+@pytest.mark.parametrize("apart, is_told", [(14.0, False), (16.0, True)])
+def test_a_surface_that_lies_over_itself_by_more_than_a_bench_is_told(
+    tmp_path, study, apart, is_told
+):
+    """Blocks are 20 m wide and long, and 15 m high."""
+    document, (x, y, _) = ezdxf.new("R2010"), study.model.xyz()
+    east, north = float(x.min()) - 900, float(y.min()) - 900
+    for up in (120.0, 120.0 + apart):
+        corners = [(east, north, up), (east + 9000, north, up), (east, north + 9000, up)]
+        document.modelspace().add_3dface(corners)
+    document.saveas(tmp_path / "d.dxf")
+    found = design.by_surface(study.model, tmp_path / "d.dxf")
+    assert any("lies over itself" in note for note in found.notes) == is_told
+
+
 @pytest.mark.parametrize("seed", [1, 2, 3])
 def test_designs_by_a_surface(tmp_path, study, seed):
     model, points = study.model, bowl(study.model, seed=seed)

@@ -189,3 +189,10 @@ def test_ids_that_the_study_doesnt_know_are_named(tmp_path):
     with pytest.raises(pp.PlanError, match="column ONE") as error:
         grade_files.of_table(tmp_path / "sims.csv", model, None)
     assert "absent" in error.value.try_this
+
+
+def test_a_mark_that_32_bits_hold_but_nearly_is_no_grade():
+    """As -99.9, whose nearest 32-bit number isn't its nearest of 64 bits."""
+    grades = np.array([1.5, -99.9, 0.0, 99.9], np.float32)
+    found = grade_files.without_marks(grades, ["N/D", "-99.9"])
+    assert found.tolist() == [1.5, 0.0, 0.0, pytest.approx(99.9)]

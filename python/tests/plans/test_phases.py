@@ -1,5 +1,6 @@
 """Pushbacks against pandas on the planner's own table."""
 import math
+from types import SimpleNamespace
 
 import numpy as np
 import pandas as pd
@@ -29,15 +30,15 @@ def mine(tmp_path_factory):
     )
 
 
-def told_by_pandas(phases, f):
+def told_by_pandas(phases, f, share=1.0):
     """The planner's own table, with what each block's pushback, ore, metal and worth are by the
-    formulas of the docs."""
+    formulas of the docs, at a share of the price."""
     f = f.copy()
     first = pd.Series(0, index=f.index)
     for n, factor in reversed(list(enumerate(SERIES))):
         first[phases.shells.study.mask(factor)] = n + 1
     f["pushback"] = first
-    revenue = np.rint(f.TONNES * 0.9 * (f.CU * 0.01 * 0.85 * 8500 + f.AU * 0.7 * 60))
+    revenue = share * np.rint(f.TONNES * 0.9 * (f.CU * 0.01 * 0.85 * 8500 + f.AU * 0.7 * 60))
     processing = np.rint(f.TONNES * 0.9 * 1.1 * f.ROCK.map({"OXI": 7.5, "SUL": 9.0}))
     f["ore"] = f.TONNES.where(revenue > processing, 0.0)
     f["worth"] = np.maximum(revenue - processing, 0) - np.rint(f.TONNES * 2)
@@ -127,6 +128,16 @@ def test_the_thinnest_bench_is_named(mine):
         assert row.narrow_blocks == part.narrow_blocks.sum()
 
 
+def test_reserves_are_those_at_the_factor_that_is_asked_for(mine):
+    phases, frame = mine
+    f, found = told_by_pandas(phases, frame, 0.6), phases.reserves(600)
+    for pushback, part in found.groupby("pushback"):
+        wanted = f[f.pushback == pushback]
+        assert part.worth.sum() == pytest.approx(wanted.worth.sum())
+        assert part.rock_t[part.to == "mill"].sum() == pytest.approx(wanted.ore.sum())
+    assert found.pushback.nunique() == 4
+
+
 def test_pits_that_are_the_same_are_no_pushbacks(tmp_path):
     study = study_of(tmp_path, table(5, 4, 3, 3))
     with pytest.raises(pp.PlanError, match="the pit at 1.001 is that at 1: there is no pushback 2"):
@@ -171,3 +182,13 @@ def test_no_figure_of_the_table_is_cut_off(tmp_path):
             f"{amount:,.0f}" in ran.stdout
             for amount in [*every[f"metal_{name}"], every[f"metal_{name}"].sum()]
         )
+
+
+def test_floor_beside_a_widened_pushback_is_what_was_dug_before_and_not_below():
+    """By hand, five cells of a bench: one of the second pushback, and four of the first, below which
+    nothing, the first, the second and the third dig."""
+    cube = np.array([[[0, 2]], [[0, 1]], [[1, 1]], [[2, 1]], [[3, 1]]])
+    widened, cut = SimpleNamespace(mines=[]), SimpleNamespace(mines=None)
+    found = Phases.floor(widened, cube, 2, 1)
+    assert found[:, 0].tolist() == [False, True, False, True, True]
+    assert not Phases.floor(cut, cube, 2, 1).any()

@@ -83,3 +83,10 @@ def test_many_small_triangles_in_several_pieces(monkeypatch, study):
         whole,
         equal_nan=True,
     )
+
+
+def test_of_points_over_one_another_the_lowest_counts():
+    """A berm's edge and the toe below it, at one place."""
+    points = np.array([[0, 0, 0], [9, 0, 0], [0, 9, 5], [0, 9, 1], [0, 9, 3], [9, 9, 2.0]])
+    kept = surface.of_points(points, "t").points.tolist()
+    assert kept == [[0, 0, 0], [0, 9, 1], [9, 0, 0], [9, 9, 2]]

@@ -7,6 +7,7 @@ import pytest
 
 import pitplan as pp
 from mines import COPPER, costs, study_of, table
+from pitplan.model.economics import Process
 from pitplan.study import pit_by_pit
 from pitplan.plans import vary
 from pitplan.tasks.tasks import Tasks
@@ -129,6 +130,10 @@ def test_npv_is_what_loops_over_the_table_give(tmp_path):
     for free in (pit_by_pit.Rates(None, 3e5, 0.08), pit_by_pit.Rates(None, None, 0.1)):
         own = by_hand(study, here, 8500, (None, free.mill, free.discount))
         assert vary.table(study, free).npv.iloc[0] == pytest.approx(own)
+    tonnes = study.model.blocks.TONNES  # rates that aren't told are by the study's own pit
+    untold = [tonnes[mask].sum() / 15 for mask in (here, here & study.priced.treated(1000))]
+    row = vary.table(study, free).set_index(["what", "by"]).loc[("price", 20.0)]
+    assert row.npv == pytest.approx(by_hand(study, rich, 8500 * 1.2, (*untold, 0.1)), rel=1e-4)
     one, two_ = vary.tornado(found.reset_index()).axes
     assert [label.get_text() for label in one.get_yticklabels()] == ["price"]
     assert {label.get_text() for label in two_.get_yticklabels()} == {
@@ -218,6 +223,18 @@ def test_more_slope_never_costs(tmp_path):
         <= found.loc[("slope", 10.0)].worth
     )
     assert found.loc[("price", -5.0)].difference < 0
+
+
+def test_one_metals_recovery_changes_in_each_process_and_the_others_stays():
+    """By hand: a tenth less of 0.8, 0.5 and 0.4 of the copper; the gold's 0.6 and 0.2 stay."""
+    leach = Process("leach", 4.0, recovery={"copper": 0.5, "gold": 0.2})
+    heap = Process("heap", 3.0, recovery={"copper": 0.4})
+    metals = (dataclasses.replace(COPPER, recovery=0.8), GOLD)
+    planned = pp.Economics(metals=metals, mining=2.0, processes=(leach, heap))
+    found, _ = vary.changed(planned, pp.Slopes(45), Change("recovery:copper", -10), None)
+    assert [metal.recovery for metal in found.metals] == [pytest.approx(0.72), 0.6]
+    assert found.processes[0].recovery == {"copper": pytest.approx(0.45), "gold": 0.2}
+    assert found.processes[1].recovery == {"copper": pytest.approx(0.36)}
 
 
 def test_changes_of_all_kinds_of_amounts(tmp_path):

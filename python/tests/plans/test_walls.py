@@ -1,5 +1,6 @@
 """How steep a design is where it breaks the slopes."""
 import math
+from types import SimpleNamespace
 
 import numpy as np
 import pandas as pd
@@ -89,3 +90,9 @@ def test_a_wall_is_told_from_a_block_that_breaks_the_slopes_there(tmp_path):
             (row.id, -1 if np.isnan(row.bearing) else walls.sector_of(row.bearing)) in there
             for row in found.itertuples()
         )
+
+
+@pytest.mark.parametrize("up, window", [(1, (6, 12, 6)), (4, (8, 4, 2)), (9, (9, 2, 1))])
+def test_walls_are_measured_over_six_levels_at_least(up, window):
+    """Over whole times what the slopes look at; so far, in blocks, does the wall lead there."""
+    assert walls._window(SimpleNamespace(offsets=[[(0, 0, 1), (2, -1, up)]])) == window

@@ -3,6 +3,7 @@ finds them, and circles by shapely."""
 import itertools
 import math
 import re
+from types import SimpleNamespace
 
 import numpy as np
 import pandas as pd
@@ -365,3 +366,30 @@ def test_circles_have_the_same_tolerance():
     wanted = widths.widths(disc, (20, 20), 200.0) >= 200.0
     assert 20 < wanted.sum() < disc.sum() + 1
     assert ((widths.widths(disc, (20, 20), 200.01) >= 200.01) == wanted).all()
+
+
+def test_the_way_that_moves_fewer_tonnes_for_each_cell_is_taken():
+    """By hand, of blocks of 100 t: to take three in makes three cells wide, to leave two one."""
+    three, two = np.arange(5) < 3, np.arange(5) >= 3
+    search = SimpleNamespace(tonnes=np.full(5, 100.0))
+    search.taken, search.gone = lambda *_: (three, 3), lambda *_: (two, 1)
+    assert Widening.better(search, None, 0, None) is three
+    search.taken = lambda *_: (three, 1)
+    assert Widening.better(search, None, 0, None) is two
+    search.taken = search.gone = lambda *_: (two, 0)
+    assert Widening.better(search, None, 0, None) is None
+
+
+def test_a_pushback_of_which_air_alone_would_stay_is_not_left(tmp_path):
+    """One block of rock, which the next pushback has room for, and a block of air."""
+    rows = ["00000000", "02222200", "02212200", "02222200", "00000000"]
+    shells = flat(rows, tmp_path, 60.0)[1].shells
+    search, b = Widening(shells, 60.0), shells.study.model.blocks
+    air, none = ((b.ix == 1) & (b.iy == 1)).to_numpy(), np.zeros(len(b), bool)
+    search.rock = search.rock & ~air
+    small = np.zeros(shells.study.model.grid.shape[:2], bool)
+    small[3, 2] = True
+    part = Between(shells.holds(0) | air, none, none, shells.holds(1), none.copy())
+    left, cells = search.gone(part, 0, small)
+    assert (left == shells.holds(0)).all()
+    assert cells == 0

@@ -73,3 +73,8 @@ def test_a_wanted_width_between_half_blocks():
     assert (widths(plane, (20, 20), wanted=60.1) < 60.1).all()
     assert thinnest(widths(strip(5, 9), (20, 20), wanted=93), (20, 20)) == 100
     assert math.isnan(thinnest(widths(np.zeros((3, 3), bool), (20, 20)), (20, 20)))
+
+
+def test_the_thinnest_width_is_rounded_down():
+    """97 m were wanted, and there: not 100, of blocks of 20 m, whose half is 10."""
+    assert thinnest(np.array([[0.0, 97.0, 120.0]]), (20, 20)) == 90
