@@ -6,7 +6,6 @@ again."""
 from __future__ import annotations
 
 import functools
-import io
 import time
 import tomllib
 from collections.abc import Mapping
@@ -40,6 +39,7 @@ from ..table.csv_text import SAY_ENCODING, dialect_of, head_of, names_of, number
 from ..table.csv_text import numbers_and_grids, read_frame, rows_about, with_numbers
 from ..views import slope_rose
 from ..views.ground import from_above
+from ..views.pictures import png_of
 from .folder import stamp
 
 _LOOKED = "rows names grades size rotation absent region regions rocks notes".split()
@@ -259,7 +259,7 @@ def rose(study: Path) -> _Json:
 def rose_picture(study: Path) -> bytes:
     """The rose of the same, as PNG."""
     file = read_study_file(study)
-    return _png(slope_rose.rose(file.slopes, file.grid()))
+    return png_of(slope_rose.rose(file.slopes, file.grid())).getvalue()
 
 
 def ground(study: Path, what: str) -> bytes:
@@ -270,14 +270,7 @@ def ground(study: Path, what: str) -> bytes:
     metals = parts.economics.metals if parts.economics else ()
     told = {metal.grade: metal.grade_unit for metal in metals}
     unit = told.get(what) or unit_of(what) or ""
-    return _png(from_above(model, what, Units(**parts.keys.units).length, unit))
-
-
-def _png(figure: Any) -> bytes:
-    """A figure as a file of pixels."""
-    image = io.BytesIO()
-    figure.savefig(image, format="png", dpi=120, bbox_inches="tight")  # with all of a legend
-    return image.getvalue()
+    return png_of(from_above(model, what, Units(**parts.keys.units).length, unit)).getvalue()
 
 
 def cells(study: Path, row: str) -> _Json:

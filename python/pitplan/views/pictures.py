@@ -5,6 +5,7 @@ direction and lines differ in their strokes, so that a picture says the same in 
 """
 from __future__ import annotations
 
+import io
 import os
 import re
 from dataclasses import dataclass
@@ -655,6 +656,14 @@ def add_worths(right: Any, left: Any, table: pd.DataFrame, at: Ints, currency: s
         ncol=2,
         frameon=False,
     )
+
+
+def png_of(figure: Figure, dpi: int = 120) -> io.BytesIO:
+    """A figure with all that belongs to it, as a legend, as a file of pixels in memory."""
+    found = io.BytesIO()
+    figure.savefig(found, format="png", dpi=dpi, bbox_inches="tight")
+    found.seek(0)
+    return found
 
 
 def save(figure: Figure, path: str | os.PathLike[str], dpi: int = 120) -> Path:

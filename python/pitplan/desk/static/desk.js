@@ -118,8 +118,7 @@ export function queue(body, changes = []) {
 
 async function write(body, changes) {
   if (!D.study?.text) return undefined;
-  const before = new Set(D.study.text.split("\n"));
-  const send = () => ask("PATCH", path, asked);
+  const before = new Set(D.study.text.split("\n")), send = () => ask("PATCH", path, asked);
   const [path, asked] = [api(), { ...body(), who: who() }];
   let answer = await send();
   // what was typed waits for the desk
@@ -141,16 +140,14 @@ async function write(body, changes) {
 }
 
 // What is asked anew after each change: once at a time, and of those that wait the latest alone.
-let checked = Promise.resolve();
-let latest = 0;
+let checked = Promise.resolve(), latest = 0;
 function refresh() {
   const mine = latest += 1;
   checked = checked.catch(() => undefined).then(() => mine === latest && recheck(mine));
   return checked;
 }
 async function recheck(mine) {
-  const of = D.study?.name;
-  const wants = where().screen === "slopes" ? ["check", "rose"] : ["check"];
+  const of = D.study?.name, wants = where().screen === "slopes" ? ["check", "rose"] : ["check"];
   const [check, rose = null] = await Promise.all(wants.map(it => look(api(it))));
   if (mine !== latest || isGone() || of !== D.study?.name) return; // it is asked anew
   Object.assign(D, { check, rose, typed: {} });
@@ -172,8 +169,7 @@ async function open(name) {
 let isUnread = false; // what the desk couldn't tell is asked again
 /** Asks, and keeps it. @param {string} key of D @param {...string} path @returns {Promise<any>} */
 async function kept(key, ...path) {
-  const [of, before] = [D.study?.name, written];
-  const found = await look(api(...path));
+  const [of, before] = [D.study?.name, written], found = await look(api(...path));
   if (D.study?.name !== of) return found;
   if (key === "study" && written !== before) return kept(key, ...path); // asked before a change
   if (key === "study") isUnread = !found.ok;
@@ -184,8 +180,7 @@ const reread = () => kept("study");
 const relook = () => kept("look", "look").then(draw); // by the keys of [model]
 /** @param {number} which @returns {Promise<any>} a run with all that it has told */
 export async function eventsOf(which) {
-  const { list, upto } = D.events[which] ?? { list: [], upto: 0 };
-  const of = D.study.name;
+  const { list, upto } = D.events[which] ?? { list: [], upto: 0 }, of = D.study.name;
   const run = await look(`${api("runs", which)}?from=${upto}`);
   if (!run.ok || D.study?.name !== of) return null;
   D.events[which] = { list: [...list, ...run.events], upto: run.upto };
@@ -331,8 +326,7 @@ export async function draw() {
   if (isGone()) return; // what was typed stays as it is
   tellEnd();
   const { screen, part } = where();
-  const before = document.activeElement;
-  const isStudy = Boolean(D.study?.text);
+  const before = document.activeElement, isStudy = Boolean(D.study?.text);
   const isOpening = D.study && !isStudy;
   const isFull = isStudy && ((screen === "pits" && part === "page") || screen === "history");
   document.body.className = (D.study ? "study" : "home") + (isFull ? " full" : "");

@@ -6,8 +6,7 @@ const isSome = v => v !== undefined && v !== null && v !== false;
 /** An element. A key that begins with "on" is a listener; what is none keeps an empty place.
  * @param {string} what name and classes, with dots @param {...any} parts @returns {any} */
 export function h(what, ...parts) {
-  const [name, ...classes] = what.split(".");
-  const e = document.createElement(name);
+  const [name, ...classes] = what.split("."), e = document.createElement(name);
   if (classes.length) e.className = classes.join(" ");
   const attributes = parts[0]?.constructor === Object ? parts.shift() : {};
   for (const [key, value] of Object.entries(attributes).filter(([, v]) => isSome(v))) {

@@ -51,8 +51,7 @@ const NAMES = {
   rock: now => (isTable(now) && "other" in now ? [] : rocks().length && rocks().length < 12
     ? rocks() : [...rocks().slice(0, 11), "other"]),
   region: (now, at) => { // also of numbers, as domains are
-    const { region, regions: all, columns: every = [] } = D.look ?? {};
-    const by = at(["slopes", "by"]);
+    const { region, regions: all, columns: every = [] } = D.look ?? {}, by = at(["slopes", "by"]);
     return (by === region ? all : every.find(c => c.name === by)?.words) ?? [];
   },
   metal: (now, at) => (at(METALS) ?? []).map(metal => metal.name),
@@ -101,8 +100,7 @@ function form(path, key, schema = key.schema) {
 }
 /** A value of one of several forms. @param {any[]} path @param {Key} key @param {any[]} ways */
 function several(path, key, ways) {
-  const now = valueOf(path);
-  const which = ways.find(way => fits(now ?? key.default, way)) ?? ways[0];
+  const now = valueOf(path), which = ways.find(way => fits(now ?? key.default, way)) ?? ways[0];
   if (now === undefined && which.required) return form(path, key, which);
   return amounts(choice(idOf([...path, "how"]), ways.map(way => way.title), which.title,
     title => set(path, at => start(ways.find(way => way.title === title), at(path)
@@ -112,8 +110,7 @@ function several(path, key, ways) {
 }
 /** A table: a form for each key that it has, and a button for each that it may have besides. */
 function parts(path, key, schema, end = () => set(path, null)) {
-  const { properties, required = [], additionalProperties: each } = schema;
-  const now = valueOf(path);
+  const { properties, required = [], additionalProperties: each } = schema, now = valueOf(path);
   if (required.length && !now) return small(`+ ${key.label.toLowerCase()}`,
     () => set(path, at => start(schema, at(path), key, at)));
   const has = Object.keys(now ?? {});
@@ -131,8 +128,7 @@ function parts(path, key, schema, end = () => set(path, null)) {
 }
 /** Bearings, each with its degrees. @param {any[]} path @param {Key} key @param {any} items */
 function bearings(path, key, items) {
-  const now = valueOf(path);
-  const order = [...now.keys()].sort((i, j) => now[i][0] - now[j][0]);
+  const now = valueOf(path), order = [...now.keys()].sort((i, j) => now[i][0] - now[j][0]);
   const more = all => {
     const [last, degrees] = all.reduce((one, other) => (other[0] >= one[0] ? other : one));
     return [...all, [Math.round((last + 360) / 2), degrees]];
@@ -165,8 +161,7 @@ function chosenRocks(path) {
 }
 
 function fill(path, key) {
-  const now = valueOf(path);
-  const domain = valueOf(["slopes", "by"]) ?? D.look?.region;
+  const now = valueOf(path), domain = valueOf(["slopes", "by"]) ?? D.look?.region;
   const lists = { rock: rocks(), [domain]: D.look?.region === domain ? D.look?.regions : null };
   const of = name => (lists[name] ? { enum: lists[name] } : { type: "number" });
   const names = ["tonnes", "rock", ...(domain ? [domain] : []), ...Object.keys(now ?? {})];
@@ -277,8 +272,7 @@ const isOf = (f, section, each, i) => f.key?.length > 3 && f.key[1] === section
 /** @param {any} remedy as `Remedy.as_data` has it @returns {any} a button that puts it in */
 export function mend(remedy) {
   if (!remedy || !D.study?.values) return null;
-  const { key: path, value: right, other, adds, when: title, also } = remedy;
-  const had = valueOf(path);
+  const { key: path, value: right, other, adds, when: title, also } = remedy, had = valueOf(path);
   const now = adds && Array.isArray(had) ? [...new Set([...had, ...right])] : right;
   const put = (value, more) => {
     const changes = [{ path, value }, ...more.map(it => ({ path: it.key, value: it.value }))];
@@ -307,8 +301,7 @@ export function faultBox(fault) {
 }
 
 function rowsAbout(fault) {
-  const key = `${D.study.name} ${fault.row}`;
-  const { rows } = D.cells[key] ?? {};
+  const key = `${D.study.name} ${fault.row}`, { rows } = D.cells[key] ?? {};
   const show = () => ask("GET", `${api("cells")}?row=${fault.row}`).then(keep(D.cells, key));
   if (!rows) return button(`show row ${number(fault.row)}`, show, { className: "small row" });
   const marked = rows[0][1].indexOf(fault.column);

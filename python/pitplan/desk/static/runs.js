@@ -111,17 +111,14 @@ const cellsOf = text => text.trim().split("\n").map(line => [...`,${line}`.match
   /,(?:"((?:[^"]|"")*)"|([^,]*))/g)].map(([, quoted, bare]) => quoted ?? bare));
 /** A column of a table of `out`, with the unit of its amounts. @param {string} column */
 function named(column) {
-  const name = column.replaceAll("_", " ");
   const [, kind, of] = column.match(/(grade|metal)_(.+)$/) ?? [];
   const metal = valueOf(["economics", "metals"])?.find?.(each => each.name === of);
   const { length = "m", weight = "t" } = valueOf(["model", "units"]) ?? {};
-  if (metal) {
-    const [key, usual] = kind === "grade" ? ["grade_unit", "%"] : ["price_unit", "t"];
-    return `${name} (${metal[key] ?? usual})`;
-  }
-  if (/_t$/.test(column)) return `${name.slice(0, -2)} (${weight})`;
-  if (LENGTHS.test(column)) return `${name} (${length})`;
-  return MONEY.test(column) ? `${name} (${valueOf(["economics", "currency"]) ?? "$"})` : name;
+  const [key, usual] = kind === "grade" ? ["grade_unit", "%"] : ["price_unit", "t"];
+  const money = MONEY.test(column) && (valueOf(["economics", "currency"]) ?? "$");
+  const unit = metal ? metal[key] ?? usual : /_t$/.test(column) ? weight
+    : LENGTHS.test(column) ? length : money, name = column.replaceAll("_", " ");
+  return unit ? `${name.replace(/ t$/, "")} (${unit})` : name;
 }
 /** A table of `out` that no run of the desk has told. @param {any} f its file */
 function tableOf(f) {

@@ -55,7 +55,8 @@ function naming() {
   return card(n.table, n.errors.map(faultBox), n.header && [
     h("div.grid", D.home.keys.find(k => k.kind === "columns").choices.map(box)),
     !n.columns.tonnes && !n.columns.density && look(
-      "No column is known as tonnes or density: choose one of the two, or go on and say tonnes by a formula.")],
+      "No column is known as tonnes or density: choose one of the two, or go on and give "
+      + "tonnes by a formula.")],
   boxes(n, { ...(n.asks === "encoding" && { encoding: ["encoding", { placeholder: "cp1252" }] }),
     name: ["the study's name", {}] }), button("Go on", goOn, { className: "main", id: "named" }));
 }
@@ -84,8 +85,7 @@ const drawing = (src, alt, className = "ground") => h("div.drawn", h("img", { cl
 const ground = (what, alt) => drawing(`${api("ground")}?what=${encodeURIComponent(what)}&`, alt);
 
 function tableScreen() {
-  const { look: seen, check } = D;
-  const isRead = Boolean(check?.blocks);
+  const { look: seen, check } = D, isRead = Boolean(check?.blocks);
   const isFolded = name => !["table", ...MODEL].includes(name);
   const isOpen = faults().some(({ key }) => key?.[0] === "model" && key[1] && isFolded(key[1]));
   const paints = [...(seen?.grades ?? []), seen?.names?.rock, seen?.region].filter(Boolean);
@@ -121,8 +121,7 @@ const LATER = "Nothing can be said before that is put right.";
 const COSTS = ["mining", "processing", "processes"];
 function money() {
   const { tonnage: t, looks: all = [], forbidden, blocks } = D.check ?? {};
-  const isWrong = faults().length > 0;
-  const isOther = name => !["metals", ...COSTS].includes(name);
+  const isWrong = faults().length > 0, isOther = name => !["metals", ...COSTS].includes(name);
   return [banner(), card("In the ground",
     t && [tip(t.title), table(t.names, t.rows, { className: isWrong ? "old" : "sums" })],
     forbidden !== undefined && tip(number(forbidden), " of ", number(blocks),
@@ -292,8 +291,7 @@ function history() {
 }
 /** @param {string} screen @returns {any} what a planner does first on it, until there are pits */
 export function guide(screen) {
-  const order = ["table", "money", "slopes", "pits"];
-  const [, then] = order.slice(order.indexOf(screen));
+  const order = ["table", "money", "slopes", "pits"], [, then] = order.slice(order.indexOf(screen));
   const isBegun = D.study.runs.some(run => ["all", "build", "shells"].includes(run.what));
   const isOwn = order.includes(screen) && !D.study.state.there && !faults().length;
   return isOwn && !isBegun && h("p.card.guide", written(screen), then

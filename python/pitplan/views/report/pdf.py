@@ -2,7 +2,6 @@
 proved."""
 from __future__ import annotations
 
-import io
 import os
 import textwrap
 from collections.abc import Sequence
@@ -35,6 +34,7 @@ from ...base.errors import in_a_line
 from ...base.files import whole_file
 from ...base.units_shown import amount_text, factor_text, lengths, scale_of
 from ..page_views import grade_texts, ratio
+from ..pictures import png_of
 from .contents import Column, Report, ReportTable
 
 # matplotlib brings these; a PDF's own fonts have no letters but those of Western Europe
@@ -170,10 +170,7 @@ def _cover(report: Report) -> list[Any]:
 
 def picture(figure: Any, wide: float, high: float) -> Any:
     """A picture with all that belongs to it, as large as there is room."""
-    png = io.BytesIO()
-    figure.savefig(png, format="png", dpi=170, bbox_inches="tight")
-    png.seek(0)
-    found = Image(png)
+    found = Image(png_of(figure, 170))
     share = min(wide / found.imageWidth, high / found.imageHeight)
     found.drawWidth, found.drawHeight = found.imageWidth * share, found.imageHeight * share
     return found

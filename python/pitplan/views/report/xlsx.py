@@ -1,7 +1,6 @@
 """A report as a workbook: a sheet for each table, its numbers as numbers, and the pictures."""
 from __future__ import annotations
 
-import io
 import math
 import os
 from pathlib import Path
@@ -15,6 +14,7 @@ from openpyxl.utils import get_column_letter
 from ...base.errors import in_a_line
 from ...base.files import whole_file
 from ...base.units_shown import grade_places
+from ..pictures import png_of
 from .contents import Column, Report, ReportTable
 
 _FORMATS = {
@@ -137,9 +137,7 @@ def _add_pictures(sheet: Any, report: Report) -> None:
     row = 1
     for name, figure in report.pictures:
         _put(sheet, row, 1, name, True)
-        png = io.BytesIO()
-        figure.savefig(png, format="png", dpi=130)
-        image: Any = Image(png)
+        image: Any = Image(png_of(figure, 130))
         image.width, image.height = _PIXELS, round(_PIXELS * image.height / image.width)
         sheet.add_image(image, f"A{row + 1}")
         row += 3 + math.ceil(image.height / 20)  # a row is 20 pixels high
