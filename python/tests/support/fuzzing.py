@@ -10,7 +10,6 @@ from NUMBER on are tried until SECONDS are over. Prints how many were answered i
 first that wasn't, with how it is tried again.
 """
 import importlib
-import itertools
 import json
 import random
 import re
