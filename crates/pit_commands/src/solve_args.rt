@@ -133,6 +133,8 @@ fn effort_to_solve<'a>(args: SolveArgs<'a>, method: Method) -> Result<Effort, Wr
 /// # Errors
 /// The value that names nothing, with its option.
 pub fn effort_over_periods<'a>(args: SolveArgs<'a>) -> Result<Effort, WrongValue<'a>> {
+    // of no effect without a trace, but it has to be a number
+    let _room = room_asked(args)?;
     match args.method {
         Some(method) if asks_for_lock_free(method) => {
             Err(wrong(Commanded::Solve, NamedOption::PlanMethod, method))

@@ -32,9 +32,16 @@ fn advice_by(method: Option<&str>, steps: Option<&str>, otherwise: &'static str)
     Advice { unsettled }
 }
 
-/// What to try where `solve` proves no pit.
+/// What to try where `solve` proves no pit. A trace is of push-relabel alone, and the amounts of blocks and periods are
+/// of one group.
 pub fn advice_to_solve(args: SolveArgs<'_>) -> Advice {
-    advice_by(args.method, args.steps, OTHER_AMOUNTS)
+    match (args.trace, args.periods) {
+        (Some(_), _) => Advice {
+            unsettled: MORE_STEPS,
+        },
+        (None, Some(_)) => advice_by(args.method, args.steps, MACHINE),
+        (None, None) => advice_by(args.method, args.steps, OTHER_AMOUNTS),
+    }
 }
 
 /// What to try where `shells` or `report` proves no pit at some factor: all their amounts are of one group.
