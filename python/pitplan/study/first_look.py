@@ -436,9 +436,9 @@ def _turned(x: Floats, y: Floats, across: tuple[float, float], along: tuple[floa
     model, since a table's coordinates are rounded."""
     angle = -math.degrees(math.atan2(across[1], across[0]))
     u, v = Grid((0, 0, 0), (1, 1, 1), rotation=angle).local(x - x[0], y - y[0])
-    row = np.rint(v / math.hypot(*along)).astype(np.int64)
-    row -= row.min()
-    count = np.maximum(np.bincount(row), 1)
+    # numbers of the rows that are there: a cell may be of a place that is very far away
+    row = np.unique(np.rint(v / math.hypot(*along)), return_inverse=True)[1]
+    count = np.bincount(row)
     du, dv = (w - (np.bincount(row, w) / count)[row] for w in (u, v))
     angle -= math.degrees(float((du * dv).sum() / max((du * du).sum(), 1e-9)))
     return _shortest(angle, math.degrees(_PLACES_OFF / max(float(np.ptp(u)), 1e-9))) + 0.0

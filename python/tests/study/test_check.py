@@ -681,6 +681,13 @@ def test_where_no_size_is_told_that_of_the_table_is_offered(tmp_path):
     assert [word.split("\n")[1] for word in words] == ["  try: size = [20, 20, 15] in [model]"]
 
 
+def test_a_place_that_is_very_far_away_is_told_by_its_row(tmp_path):
+    frame = table(6, 5, 4, 3).astype({"YC": float})
+    frame.loc[30, "YC"] = 1e17
+    file = [str(error) for error in check(written_study(tmp_path / "s", frame)).errors]
+    assert "row 32, column YC: the centre is more than 1,000,000,000 blocks of 20 away" in file[0]
+
+
 def test_classes_are_looked_up_where_places_are_wrong(tmp_path):
     """A column of classes has words: they are looked up in a table whose places are wrong, too."""
     frame = table(6, 5, 4, 3).assign(CLASS=lambda f: [("MEA", "INF")[at % 2] for at in f.index])
