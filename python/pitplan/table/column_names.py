@@ -435,7 +435,7 @@ def said_of_misnamed(columns: Mapping[str, str], wrong: Mapping[str, str]) -> tu
 def nearest(missing: Sequence[str], names: Mapping[str, bool]) -> dict[str, str]:
     """For each of x, y and z the name that looks most like one of its usual names, each name once;
     two points where none does. `names` are those of columns of numbers, each with whether these are
-    spaced as a grid: one without a usual name as a word of its own isn't offered else.
+    spaced as a grid: a column that isn't is offered only by a usual name as a word of its own.
 
     >>> nearest(["x", "y"], {"LENGTH": False, "Y_LOCAL": True, "X_LOCAL": False})
     {'x': 'X_LOCAL', 'y': 'Y_LOCAL'}
