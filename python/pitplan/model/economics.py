@@ -802,13 +802,13 @@ def _cost(what: str, stated: Amount, model: Model, rocks: Sequence[str] | None =
     said = what.removesuffix(" cost")  # a process costs so much, and not its cost
     for value in stated.values() if isinstance(stated, Mapping) else [stated]:
         if isinstance(value, (int, float)) and value < 0:
-            raise PlanError(f"{said} costs {value:g} a tonne, less than nothing")
+            raise PlanError(f"{said} costs {value:g}, less than nothing")
     values = amount(what, stated, model, rocks)
     wrong = values < 0
     if wrong.any():
         at = int(np.argmax(wrong))
         raise PlanError(
-            f"{said} costs {values[at]:g} a tonne here, less than nothing"
+            f"{said} costs {values[at]:g} here, less than nothing"
             + (f", and so for {int(wrong.sum()):,} blocks" if wrong.sum() > 1 else ""),
             table=model.table,
             row=_row_at(model, at),

@@ -38,7 +38,7 @@ _HINTS = {
     "memory": "memory was refused: fewer --workers",
     "device": "a file couldn't be read or written: is the disk full?",
 }
-_TOO_MANY_PAIRS = "fault: slope TooMany"  # what `pit` says of more than so many
+_TOO_MANY_PAIRS = "fault: slope TooMany"  # what `pit` says where it has to list more than so many
 _PAIRS = 1 << 27
 
 
@@ -194,7 +194,7 @@ class Process:
         if fault.endswith(_TOO_MANY_PAIRS):
             return PlanError(
                 "[slopes] the offsets make more pairs of a block and a predecessor over this model"
-                f" than pit holds, {_PAIRS:,}",
+                f" than pit lists, {_PAIRS:,}",
                 try_this="fewer levels in [slopes], steeper angles, or larger blocks",
                 key=("slopes",),
             )

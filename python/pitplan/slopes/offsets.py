@@ -30,7 +30,7 @@ Offset = Tuple[int, int, int]
 Angles = Union[float, Sequence[Tuple[float, float]]]
 _Fits = Callable[[Sequence[Offset]], bool]
 
-PAIRS = 1 << 27  # the most pairs of a block and a predecessor that `pit` takes
+PAIRS = 1 << 27  # the most pairs of a block and a predecessor that `pit` lists
 OFFSETS = 4096  # the most offsets
 # degrees that a wall may err by: on average, anywhere, on average with its sign
 MEAN, WORST, _SIGNED = (
@@ -554,7 +554,7 @@ class _Cones:
 
 
 def within(blocks: int) -> _Fits:
-    """Whether offsets can't make more pairs of so many blocks than `pit` takes."""
+    """Whether offsets can't make more pairs of so many blocks than `pit` lists."""
     return lambda offsets: len(offsets) * blocks <= PAIRS
 
 
@@ -607,7 +607,7 @@ def search(
         found = judged(cones.cuts(NARROWEST, most)) or judged(cones.cuts(0.0, most))
         if found is None:
             raise SlopeError(
-                "not even one offset fits into the %s pairs that pit takes" % f"{PAIRS:,}"
+                "not even one offset fits into the %s pairs that pit lists" % f"{PAIRS:,}"
             )
         tried.append(found)
         if found.is_held:

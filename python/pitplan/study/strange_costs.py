@@ -85,13 +85,13 @@ def of_costs(model: Model, priced: Priced, economics: Economics) -> Iterator[Str
     less than a dollar what seems to be in dollars."""
     tonnes = model.blocks.tonnes.to_numpy(float)
     dug = (tonnes > 0) & ~priced.forbidden
-    yield from _of_nothing(priced, dug, economics)
+    unit = model.units.words.removesuffix("s")
+    yield from _of_nothing(priced, dug, economics, unit)
     rate = units_a_dollar(economics.currency)
     if rate is None:
         return
     digging = priced.mining[dug] * float(priced.rounding) / tonnes[dug]
     key: KeyPath = ("economics", "mining")
-    unit = model.units.words.removesuffix("s")
     work = [_Work(f"digging a {unit}", _DIGGING, economics.mining, digging, key, "[economics]")]
     ore = tonnes if priced.part is None else tonnes * priced.part
     for way, said in zip(priced.ways, economics.treatments):
@@ -119,7 +119,7 @@ def _of_dollars(work: _Work, currency: str, rate: float) -> Iterator[Strange]:
         )
 
 
-def _of_nothing(priced: Priced, dug: Bools, economics: Economics) -> Iterator[Strange]:
+def _of_nothing(priced: Priced, dug: Bools, economics: Economics, unit: str) -> Iterator[Strange]:
     """Work that costs nothing."""
     if dug.any() and (priced.mining[dug] == 0).mean() > 0.5:
         yield Strange(
@@ -127,7 +127,7 @@ def _of_nothing(priced: Priced, dug: Bools, economics: Economics) -> Iterator[St
                 f"digging costs nothing for {int((priced.mining[dug] == 0).sum()):,} of"
                 f" {int(dug.sum()):,} blocks"
             ),
-            "it costs something a tonne, waste too",
+            f"a {unit} costs something, waste too",
             "mining in [economics]",
             ("economics", "mining"),
         )
@@ -135,7 +135,7 @@ def _of_nothing(priced: Priced, dug: Bools, economics: Economics) -> Iterator[St
         if ore.any() and (way.processing[ore] == 0).mean() > 0.5:
             yield Strange(
                 f"treating the ore {f'by {way.name} ' if said.label else ''}costs nothing",
-                "it costs something a tonne",
+                f"a {unit} costs something",
                 f"cost of {said.label}" if said.label else "processing in [economics]",
                 said.key("processing"),
             )

@@ -127,7 +127,7 @@ def looks(model: Model, priced: Priced, plan: _Says) -> list[Strange]:
         *_of_untaken(model, priced, economics),
         # what comes of all these
         *of_worths(priced, economics),
-        *_of_idle_ways(priced, economics),
+        *_of_idle_ways(model, priced, economics),
         *of_rates(model, priced, plan.rates),
         *_of_schedule_rates(model, priced, plan.values["schedule"], plan.rates),
         *_of_two_rates(plan.values["schedule"], plan.rates),
@@ -356,14 +356,18 @@ def of_unread(model: Model, plan: _Says) -> Iterator[Strange]:
         )
 
 
-def _of_idle_ways(priced: Priced, economics: Economics) -> Iterator[Strange]:
+def _of_idle_ways(model: Model, priced: Priced, economics: Economics) -> Iterator[Strange]:
     """Processes that get no block where others get some."""
     for (way, ore), said in zip(priced.by_way(THOUSAND), economics.treatments):
         if not ore.any() and priced.treated(THOUSAND).any():
-            is_one = isinstance(said.cost, (int, float))
+            unit = model.units.words.removesuffix("s")
+            cost = (
+                f"; it costs {said.cost:,.6g} {economics.currency} a {unit}"
+                if isinstance(said.cost, (int, float))
+                else ""
+            )
             yield Strange(
-                f"no block goes to {way.name} at the full price"
-                + (f"; it costs {said.cost:,.6g} {economics.currency} a tonne" if is_one else ""),
+                f"no block goes to {way.name} at the full price{cost}",
                 "",
                 f"cost, recovery and rocks of {said.label}",
                 said.key("processing"),

@@ -53,6 +53,7 @@ _EVEN = 0.75  # the share of the steps between centres that are as long as the s
 NO_WEIGHT = 'its tonnes or density in that cell: a cell that counts as "not estimated" weighs 0, and makes air of rock'
 NO_PLACE = "fill its place in, or take the row out"  # what to try where a coordinate is no number
 PLAIN = re.compile(r"[+-]?(\d+\.?\d*|\.\d+)([eE][+-]?\d+)?")
+_OF_NO_TABLE = ("idna", "punycode", "unicode-escape", "raw-unicode-escape")
 _LIKE_A_NUMBER = re.compile(r"[-+]?[\d.,]*\d[\d.,]*(e[-+]?\d+)?", re.IGNORECASE)
 _LETTERED = str.maketrans("OolI", "0011")  # letters that are typed for digits
 
@@ -207,9 +208,15 @@ def head_of(path: Path, encoding: str = "utf-8-sig", lines: int = 12) -> list[st
             table=path,
             try_this='save it as "CSV UTF-8"',
         )
+    if not _is_encoding(encoding):
+        raise PlanError(
+            f"{encoding!r} is no encoding that is known",
+            table=path,
+            try_this='"utf-8", or "cp1252" as Excel saves in western Europe and Latin America',
+        )
     try:
         text = [line.decode(encoding).rstrip("\r\n") for line in raw]
-    except (UnicodeDecodeError, LookupError):
+    except UnicodeDecodeError:
         raise _no_text(path, encoding) from None
     if not text or not text[0].strip():
         raise PlanError("has no header line", table=path)
@@ -230,18 +237,18 @@ def head_of(path: Path, encoding: str = "utf-8-sig", lines: int = 12) -> list[st
     return text
 
 
+def _is_encoding(name: str) -> bool:
+    """Whether Python knows an encoding of this name that tables may be in."""
+    try:
+        return codecs.lookup(name).name not in _OF_NO_TABLE and bool("x".encode(name))
+    except (LookupError, ValueError):  # none, one of bytes, or a name with odd characters
+        return False
+
+
 def _no_text(path: Path, encoding: str) -> PlanError:
     """The error of a table that isn't text in an encoding: the first row that isn't, and the byte
     there."""
     called = encoding.replace("utf-8-sig", "UTF-8")
-    try:
-        codecs.lookup(encoding)
-    except LookupError:
-        return PlanError(
-            f"{encoding!r} is no encoding that is known",
-            table=path,
-            try_this='"utf-8", or "cp1252" as Excel saves in western Europe and Latin America',
-        )
     with suppress(OSError, EOFError, zlib.error), open_table(path) as file:
         for row, line in enumerate(file, -1):
             try:

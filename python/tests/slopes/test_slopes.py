@@ -148,7 +148,7 @@ def test_slopes_of_too_many_pairs_are_told_in_the_planner_s_terms(tmp_path, monk
     ran = pitplan("shells", study, PIT=str(tmp_path / "pit"))
     assert ran.returncode == 3, ran.stderr
     assert (
-        "[slopes] the offsets make more pairs of a block and a predecessor over this model than pit holds, 134,217,728"
+        "[slopes] the offsets make more pairs of a block and a predecessor over this model than pit lists, 134,217,728"
         in " ".join(ran.stderr.split())
     )
     assert "try: fewer levels in [slopes], steeper angles, or larger blocks" in " ".join(

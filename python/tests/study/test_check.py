@@ -103,7 +103,7 @@ ERRORS = [
         "digging below 0 in one block",
         ("mining = 2.0", 'mining = "2 - 3 * (CU >= 0.5)"'),
         lambda frame: frame.assign(CU=np.where(np.arange(len(frame)) == 40, 0.5, 0.4)),
-        "row 42: [economics] mining costs -1 a tonne here, less than nothing\n",
+        "row 42: [economics] mining costs -1 here, less than nothing\n",
         ("economics", "mining"),
     ),
     (
@@ -244,7 +244,7 @@ ERRORS = [
         "digging below 0",
         ("mining = 2.0", "mining = -2.0"),
         None,
-        "study.toml: [economics] mining costs -2 a tonne, less than nothing",
+        "study.toml: [economics] mining costs -2, less than nothing",
         ("economics", "mining"),
     ),
     ("feet for metres", (METRES, "[65.6, 65.6, 49.2]"), None, "off the grid", ("model", "size")),

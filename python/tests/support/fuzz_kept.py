@@ -51,7 +51,7 @@ TOLD = re.compile(r"^error: [^\n]+(\n  [^\n]*)*\n  try: [^\n]+", re.MULTILINE)
 # what is told where files are of another model, of other terms, or not there
 OTHER = re.compile(
     "no schedule by the terms|ha(s|ve)n't been run|the plan by years isn't in it|has changed since"
-    "|wasn't built"
+    "|(wasn't|never) built"
 )
 
 

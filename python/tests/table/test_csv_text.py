@@ -259,6 +259,16 @@ def test_what_is_no_table(tmp_path, text, said):
     assert said in refusal(tmp_path, None, text=text)
 
 
+@pytest.mark.parametrize(
+    "name", ["cp99", "hex", "idna", "undefined", "unicode_escape", "", "\0", "\ud800"]
+)
+def test_what_is_no_encoding_of_tables(tmp_path, name):
+    path = tmp_path / "t.csv"
+    path.write_text("X,Y,Z\n1,2,3\n", encoding="utf-8")
+    with pytest.raises(PlanError, match="is no encoding that is known\n  try: "):
+        dialect_of(path, name)
+
+
 def test_a_table_that_isnt_there(tmp_path):
     with pytest.raises(pp.PlanError, match="no such file"):
         pp.read_table(tmp_path / "none.csv", size=SIZE)
