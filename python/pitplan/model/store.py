@@ -3,6 +3,7 @@ words, and no code."""
 from __future__ import annotations
 
 import json
+import lzma
 import re
 import tokenize
 import unicodedata
@@ -39,9 +40,11 @@ DAMAGED = (
     RuntimeError,
     zipfile.BadZipFile,
     zlib.error,
+    lzma.LZMAError,
     tokenize.TokenError,
 )
 _COLUMN, _WORDS, _METAL, _GRADE = "column ", "words ", "metal ", "grade "
+_NUMBERS = "iufb"  # kinds of columns of numbers
 # columns that pricing and `.blocks` ask for, beside those that [economics] names
 _ASKED = (
     "ix",
@@ -76,18 +79,27 @@ def _arrays_of(ways: Sequence[Way]) -> dict[str, Array]:
     return arrays
 
 
+def _array(file: Any, name: str, kinds: str, size: int | None = None) -> Any:
+    """An array of a file, of shape (size,), whose type is of one of these kinds of NumPy's. Raises
+    TypeError where it is another."""
+    found = file[name]
+    if found.dtype.kind not in kinds or found.ndim != 1 or size not in (None, len(found)):
+        raise TypeError(f"{name} is of {found.dtype} and {found.shape}")
+    return found
+
+
 def _ways_in(file: Any, facts: dict[str, Any]) -> tuple[Way, ...]:
     """The ways that `_arrays_of` made arrays of; one mill in files that name none."""
-    found = []
+    found, size = [], facts["blocks"]
     for number, (name, feed) in enumerate(facts.get("processes", [["mill", facts["feed"]]])):
         before = f"{number} " if number else ""
         metal = {
-            each.removeprefix(before + _METAL): file[each]
+            each.removeprefix(before + _METAL): _array(file, each, _NUMBERS, size)
             for each in file.files
             if each.startswith(before + _METAL)
         }
-        revenue, processing = file[f"{before}revenue"], file[f"{before}processing"]
-        found.append(Way(str(name), revenue, processing, metal, float(feed)))
+        both = (_array(file, before + each, "i", size) for each in ("revenue", "processing"))
+        found.append(Way(str(name), *both, metal, float(feed)))
     return tuple(found)
 
 
@@ -171,7 +183,7 @@ def load_model(path: Path) -> Model:
     with _open_kept(path) as file:
         facts = _facts_of(file)
         columns = {
-            name: file[_COLUMN + name]
+            name: _array(file, _COLUMN + name, _NUMBERS, facts["blocks"])
             if _COLUMN + name in file.files
             else _bytes_as_words(file[_WORDS + name], facts["blocks"])
             for name in facts["order"]
@@ -179,8 +191,26 @@ def load_model(path: Path) -> Model:
         return _model_from(pd.DataFrame(columns, copy=False), file, facts)
 
 
+def _refuse_outside(indices: Any, least: int, end: int) -> None:
+    """Raises ValueError where these aren't whole numbers from `least` to below `end`."""
+    indices = np.asarray(indices)
+    if (
+        indices.dtype.kind != "i"
+        or len(indices)
+        and not (least <= indices.min() and indices.max() < end)
+    ):
+        raise ValueError("an index of a block or of a row is another")
+
+
 def _model_from(blocks: pd.DataFrame, file: Any, facts: dict[str, Any]) -> Model:
     """The model of a file that `save` wrote, of some of its columns."""
+    row_block = _array(file, "row_block", "i")
+    for name, end in zip(("ix", "iy", "iz"), _three(facts["shape"])):
+        if name in blocks.columns:
+            _refuse_outside(blocks[name], 0, end)
+    if "row" in blocks.columns:
+        _refuse_outside(blocks["row"], -1, len(row_block))
+    _refuse_outside(row_block, -1, len(blocks))
     return Model(
         blocks,
         Grid(
@@ -192,7 +222,7 @@ def _model_from(blocks: pd.DataFrame, file: Any, facts: dict[str, Any]) -> Model
         facts["name"],
         facts["notes"],
         facts["columns"],
-        file["row_block"],
+        row_block,
         facts["depth"],
         fenced=_fenced_of(file, facts),
         units=Units(**facts.get("units", {})),
@@ -220,7 +250,7 @@ def load_lean(path: Path, economics: Mapping[str, Any]) -> Model:
             ):
                 continue  # a name with quotes may stand there in another spelling
             if _COLUMN + name in file.files:
-                columns[name] = file[_COLUMN + name]
+                columns[name] = _array(file, _COLUMN + name, _NUMBERS, facts["blocks"])
             else:  # each word once, however many blocks have it
                 codes, words = pd.factorize(_bytes_as_words(file[_WORDS + name], facts["blocks"]))
                 columns[name] = words[codes]
@@ -229,27 +259,30 @@ def load_lean(path: Path, economics: Mapping[str, Any]) -> Model:
 
 def _fenced_of(file: Any, facts: dict[str, Any]) -> tuple[Sequence[str], Bools] | None:
     """The formulas of `forbid` and the blocks that they keep, of a model with sub-blocks."""
-    return (facts["fenced"], file["forbidden"]) if facts.get("fenced") is not None else None
+    if facts.get("fenced") is None:
+        return None
+    return facts["fenced"], _array(file, "forbidden", "b", facts["blocks"])
 
 
 def _row_tonnes_of(file: Any) -> Floats | None:
     """What each row of the table weighs, where several are one block."""
-    return file["row_tonnes"] if "row_tonnes" in file.files else None
+    return _array(file, "row_tonnes", _NUMBERS) if "row_tonnes" in file.files else None
 
 
 def load_priced(path: Path) -> Priced:
     """What the blocks bring and cost; the planner's own columns aren't read."""
     with _open_kept(path) as file:
         facts = _facts_of(file)
-        grade = {name[len(_GRADE) :]: file[name] for name in file.files if name.startswith(_GRADE)}
+        size = facts["blocks"]
+        grades = [name for name in file.files if name.startswith(_GRADE)]
         return Priced(
             _ways_in(file, facts),
-            file["mining"],
+            _array(file, "mining", "i", size),
             rounding_of(facts["rounding"]),
-            grade,
-            file["forbidden"],
-            file["unfenced"] if "unfenced" in file.files else np.zeros(0, np.int64),
-            file["part"] if "part" in file.files else None,
+            {name[len(_GRADE) :]: _array(file, name, _NUMBERS, size) for name in grades},
+            _array(file, "forbidden", "b", size),
+            _array(file, "unfenced", "i") if "unfenced" in file.files else np.zeros(0, np.int64),
+            _array(file, "part", _NUMBERS, size) if "part" in file.files else None,
         )
 
 
@@ -257,5 +290,5 @@ def load_region(path: Path) -> Ints:
     """The region of slopes of each block: 0 is "default", the others in the order of
     ``study.toml``."""
     with _open_kept(path) as file:
-        region: Ints = file["region"].astype(np.int64)
+        region: Ints = _array(file, "region", "u").astype(np.int64)
         return region

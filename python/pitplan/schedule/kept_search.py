@@ -10,18 +10,17 @@ import gzip
 import hashlib
 import json
 import shutil
-import zlib
 from collections.abc import Callable
 from dataclasses import asdict, dataclass
 from pathlib import Path
 from typing import Any
-from zipfile import BadZipFile
 
 import numpy as np
 
 from ..base import kept_json
 from ..base.arrays import Array
 from ..base.files import made_whole, sweep, whole_file
+from ..model import store
 from .search_ends import KINDS, End
 from .production import Production
 from .destinations import Timetable
@@ -37,15 +36,7 @@ _BOUND: dict[str, kept_json.Holds] = {
 _SCRATCH = (".bound.*", ".closures.*", ".judged.*")  # folders that a killed search leaves
 _PIECE = 1 << 20  # bytes of a certificate that are read at a time
 # what NumPy, zip and gzip say of files that are cut off or have other bytes
-_UNREADABLE = (
-    OSError,
-    ValueError,
-    KeyError,
-    EOFError,
-    RuntimeError,
-    BadZipFile,
-    zlib.error,
-)
+_UNREADABLE = (OSError, *store.DAMAGED)
 
 
 @dataclass(frozen=True)

@@ -27,6 +27,7 @@ from ..base.errors import Disagreement, PlanError
 from ..base.files import whole_file
 from ..base.next_command import command
 from ..base.units_shown import counted
+from ..model import store
 from ..plans.risk import Realisation, realisation, setup_of
 from ..plans.task_line import REALISED, Task
 from ..study.shells import Shells
@@ -134,7 +135,7 @@ def _given_schedule(base: Study) -> _GivenSchedule | None:
             period: Indices = file["period"].astype(np.int32)
     except (FileNotFoundError, NotADirectoryError):
         return None
-    except (OSError, ValueError, KeyError, EOFError):
+    except (OSError, *store.DAMAGED):
         raise PlanError(f"{folder / 'schedule.npz'} is damaged", try_this=again) from None
     is_same = hashlib.sha256(period.astype("<i4").tobytes()).hexdigest() == found["schedule"]
     if found["study"] != base.key or not is_same:

@@ -161,7 +161,7 @@ def _bits_of(path: Path) -> Bytes | None:
     try:
         with np.load(path, allow_pickle=False) as file:
             bits: Bytes = file["bits"]
-            return bits
+            return bits if bits.dtype == np.uint8 and bits.ndim == 1 else None
     except store.DAMAGED:
         return None
     except OSError as error:

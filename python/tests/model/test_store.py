@@ -11,11 +11,15 @@ from mines import SIZE, costs, study_of, table
 from pitplan.model import store
 
 
+def _arrays(path):
+    with np.load(path) as file:
+        return {name: file[name] for name in file.files}
+
+
 def test_a_model_of_an_older_build_has_one_mill(tmp_path):
     study = study_of(tmp_path, table(6, 5, 3, 2))
     path = study.where / "blocks.npz"
-    with np.load(path) as file:
-        arrays = {name: file[name] for name in file.files}
+    arrays = _arrays(path)
     facts = json.loads(bytes(arrays["told"]).decode())
     del facts["processes"]
     arrays["told"] = np.frombuffer(json.dumps(facts).encode(), np.uint8)
@@ -55,6 +59,37 @@ def test_a_store_takes_no_pickles(tmp_path):
     np.savez(tmp_path / "x.npz", told=np.array([{"a": 1}], dtype=object))
     with pytest.raises(pp.PlanError, match="isn.t a model that pitplan wrote"):
         store.load_model(tmp_path / "x.npz")
+
+
+def _of_another_type(one):
+    return one.astype(np.int8 if one.dtype.kind in "bu" else "U9")
+
+
+@pytest.mark.parametrize("change", [_of_another_type, lambda one: one[None], lambda one: one[:-1]])
+def test_an_array_of_another_type_or_shape_is_no_model(tmp_path, change):
+    study = study_of(tmp_path, table(3, 3, 3, 2))
+    path = study.where / "blocks.npz"
+    sound = _arrays(path)
+    of_any_length = {"row_block", "region"} if len(change(np.zeros(2))) == 1 else set()
+    names = {name for name in sound if name != "told" and not name.startswith("words ")}
+    assert {"revenue", "mining", "metal copper", "forbidden", "column tonnes"} <= names
+    for name in sorted(names - of_any_length - {"unfenced"}):
+        np.savez(path, **sound | {name: change(sound[name])})
+        with pytest.raises(pp.PlanError, match="isn.t a model that pitplan wrote"):
+            for read in (store.load_model, store.load_priced, store.load_region):
+                read(path)
+
+
+@pytest.mark.parametrize("name", ["column ix", "column iz", "column row", "row_block"])
+@pytest.mark.parametrize("index", [-2, 100])
+def test_an_index_outside_the_grid_is_no_model(tmp_path, name, index):
+    study = study_of(tmp_path, table(3, 3, 3, 2))
+    path = study.where / "blocks.npz"
+    arrays = _arrays(path)
+    arrays[name][-1] = index
+    np.savez(path, **arrays)
+    with pytest.raises(pp.PlanError, match="isn.t a model that pitplan wrote"):
+        store.load_model(path)
 
 
 def test_the_lean_model_has_what_pricing_asks_for(tmp_path):

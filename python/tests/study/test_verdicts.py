@@ -63,6 +63,13 @@ def test_a_result_that_cannot_be_read_is_told(tmp_path):
         except pp.Disagreement as error:
             assert "isn't what was stated" in str(error)
             assert "take " in str(error)
+    path.write_bytes(kept)
+    with np.load(path) as file:
+        bits = file["bits"]
+    for others in (bits.astype(np.int8), bits.view(np.bool_), bits[None]):  # of the same bytes
+        np.savez_compressed(path, bits=others)
+        with pytest.raises(pp.Disagreement, match="isn't what was stated"):
+            study.mask(800)
     path.unlink()
     with pytest.raises(pp.Disagreement, match="isn't what was stated"):
         pp.Shells(study, [600, 800])
