@@ -98,8 +98,9 @@ def _ways_in(file: Any, facts: dict[str, Any]) -> tuple[Way, ...]:
             for each in file.files
             if each.startswith(before + _METAL)
         }
-        both = (_array(file, before + each, "i", size) for each in ("revenue", "processing"))
-        found.append(Way(str(name), *both, metal, float(feed)))
+        revenue = _array(file, f"{before}revenue", "i", size)
+        processing = _array(file, f"{before}processing", "i", size)
+        found.append(Way(str(name), revenue, processing, metal, float(feed)))
     return tuple(found)
 
 
