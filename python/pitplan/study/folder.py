@@ -150,11 +150,15 @@ class StudyFolder:
 
     @cached_property
     def model(self) -> Model:
-        return store.load_model(self.where / "blocks.npz")
+        model = store.load_model(self.where / "blocks.npz")
+        self._refuse_other_count(len(model))
+        return model
 
     @cached_property
     def priced(self) -> Priced:
-        return store.load_priced(self.where / "blocks.npz")
+        priced = store.load_priced(self.where / "blocks.npz")
+        self._refuse_other_count(len(priced.mining))
+        return priced
 
     @cached_property
     def classes(self) -> Classes | None:
@@ -165,7 +169,18 @@ class StudyFolder:
     @cached_property
     def region(self) -> Ints:
         """The region of slopes of each block, of shape (blocks,): an index into `offsets`."""
-        return store.load_region(self.where / "blocks.npz")
+        region = store.load_region(self.where / "blocks.npz")
+        self._refuse_other_count(len(region))
+        return region
+
+    def _refuse_other_count(self, blocks: int) -> None:
+        """Raises Damaged where the model has another number of blocks than its manifest says."""
+        if blocks != self.manifest["blocks"]:
+            raise kept_json.Damaged(
+                f"{self.where / 'manifest.json'} says {self.manifest['blocks']:,} blocks, and"
+                f" blocks.npz beside it has {blocks:,}",
+                try_this=command("build", self.named),
+            )
 
     @cached_property
     def sides(self) -> list[Ints]:

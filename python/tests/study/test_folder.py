@@ -65,6 +65,15 @@ def test_pairs_that_an_older_build_did_not_count_are_counted(made):
     assert older.pairs == counted_pairs(made.model.index, made.region, list(made.offsets.values()))
 
 
+@pytest.mark.parametrize("blocks", [0, 3, 10**6])
+def test_a_manifest_of_another_number_of_blocks_is_told(made, blocks):
+    path = made.where / "manifest.json"
+    path.write_text(json.dumps(json.loads(path.read_text()) | {"blocks": blocks}))
+    for name in ("model", "priced", "region"):
+        with pytest.raises(Damaged, match=f"manifest.json says {blocks:,} blocks"):
+            getattr(StudyFolder(made.folder), name)
+
+
 @pytest.mark.parametrize("name", ["mine.blocks", "settings.toml", "blocks.npz"])
 def test_files_are_those_that_the_build_made(made, name):
     StudyFolder(made.folder).verify()
