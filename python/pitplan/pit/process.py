@@ -38,6 +38,8 @@ _HINTS = {
     "memory": "memory was refused: fewer --workers",
     "device": "a file couldn't be read or written: is the disk full?",
 }
+# a file of the study isn't as it was written, or this package writes what `pit` doesn't take
+_OTHERWISE = "pitplan build, which makes the model anew; else tell the maintainers"
 _TOO_MANY_PAIRS = "fault: slope TooMany"  # what `pit` says where it has to list more than so many
 _PAIRS = 1 << 27
 
@@ -260,8 +262,9 @@ def left_until(ends: float | None) -> float | None:
     return None if ends is None else ends - time.monotonic()
 
 
-def hint_of(said: str) -> str | None:
-    return next((hint for key, hint in _HINTS.items() if key in said), None)
+def hint_of(said: str) -> str:
+    """What to try where `pit` says this in place of an answer."""
+    return next((hint for key, hint in _HINTS.items() if key in said), _OTHERWISE)
 
 
 def _listen(run: subprocess.Popen[bytes], lines: list[str], on_line: LineListener | None) -> None:

@@ -5,6 +5,8 @@ from __future__ import annotations
 import gzip
 import shutil
 import tempfile
+from collections.abc import Iterator
+from contextlib import contextmanager
 from dataclasses import replace
 from decimal import Decimal
 from pathlib import Path
@@ -12,8 +14,9 @@ from typing import TYPE_CHECKING
 
 import numpy as np
 
+from ..base import kept_json
 from ..base.arrays import Indices, Ints
-from ..base.errors import Disagreement
+from ..base.errors import Disagreement, NotAccepted
 from ..base.files import mark, whole_file
 from ..base.units_shown import counted
 from ..pit.program import Periodic
@@ -110,9 +113,13 @@ def judged(
     Disagreement
         Where it isn't feasible, is worth another amount than what was added up here, or has another
         bound.
+    Damaged
+        Where `pit` refuses the certificate, as one of other multipliers.
     """
     of_blocks, goes = production.of_blocks(plan), production.ways_chosen(plan)
-    with tempfile.TemporaryDirectory(prefix=f".judged.{mark()}", dir=folder) as work:
+    with _refused_with(bound), tempfile.TemporaryDirectory(
+        prefix=f".judged.{mark()}", dir=folder
+    ) as work:
         place, best = Path(work), Path(work) / "bound.cert"
         multipliers = np.array(bound[0].multipliers, np.int64) if bound else None
         mine = write_texts(place, study, production, of_blocks, goes, multipliers)
@@ -133,6 +140,21 @@ def judged(
             _refuse_other(of_units, len(rows["b"]), production.worth(plan), bound, True)
             said = replace(said, bound=of_units.bound, gap=of_units.gap)
     return said
+
+
+@contextmanager
+def _refused_with(bound: tuple[Bound, Path] | None) -> Iterator[None]:
+    """Tells what `pit` refuses beside a bound by the folder in which that is kept."""
+    try:
+        yield
+    except NotAccepted as error:
+        if bound is None:
+            raise
+        kept = bound[1].parent
+        raise kept_json.Damaged(
+            f"what is kept in {kept} isn't a bound any more: {error.what}",
+            try_this=f"rm -r {kept}: the next search makes one anew",
+        ) from None
 
 
 def _refuse_other(

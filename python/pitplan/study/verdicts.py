@@ -142,8 +142,8 @@ class Verdicts(StudyFolder):
                     f" the table adds up to {counted:,} blocks worth {ours}"
                 ),
                 try_this=(
-                    "this is a mistake in pitplan or damage on the disk: keep the folder, and tell"
-                    " the maintainers"
+                    "this is a mistake in pitplan, or damage on the disk: keep"
+                    f" {self.place(factor)}, and tell the maintainers"
                 ),
             )
         if (mask & self.priced.forbidden).any():
