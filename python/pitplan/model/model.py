@@ -352,7 +352,11 @@ def rows_alone(path: Path, keys: TableKeys) -> tuple[Model, set[int]]:
         frame, names = frame.assign(tonnes=1.0), {**names, "tonnes": "tonnes"}
     filled = {names.get(key, key): value for key, value in keys.fill.items()}
     if keys.missing == "rock":  # a row of its own: its rock may be none of the table's
-        here = {name: value for name, value in filled.items() if name in frame}
+        here = {
+            name: value
+            for name, value in filled.items()
+            if name in frame and isinstance(value, (str, int, float))
+        }
         frame = pd.concat([frame, frame.iloc[-1:].assign(**here)])
     places = np.arange(len(frame)), np.zeros(len(frame), np.int64), np.zeros(len(frame), np.int64)
     nowhere = Grid((0.0, 0.0, 0.0), (1.0, 1.0, 1.0), (len(frame), 1, 1))

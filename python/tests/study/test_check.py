@@ -604,6 +604,14 @@ HANGS = {
         None,
         [("model", "size")],
     ),
+    "a rock that fills gaps and weighs no number, on a size": (
+        [
+            ("[20, 20, 15]", "[20, 20, 10]"),
+            ("size =", 'missing = "rock"\nfill = { TONNES = {}, rock = "OXI" }\nsize ='),
+        ],
+        None,
+        [("model", "size")],
+    ),
     "regions by depth, on a size": (
         [("[20, 20, 15]", "[20, 20, 10]"), *BY_DEPTH],
         None,
@@ -636,6 +644,7 @@ HANGS = {
 }
 
 
+@pytest.mark.filterwarnings("error::FutureWarning")
 @pytest.mark.parametrize("changes, frame, keys", HANGS.values(), ids=HANGS)
 def test_what_hangs_on_a_mistake_waits(tmp_path, changes, frame, keys):
     found, words = keys_told(tmp_path, changes, frame)
