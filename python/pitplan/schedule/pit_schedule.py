@@ -150,11 +150,16 @@ def _refused_with(bound: tuple[Bound, Path] | None) -> Iterator[None]:
     except NotAccepted as error:
         if bound is None:
             raise
-        kept = bound[1].parent
-        raise kept_json.Damaged(
-            f"what is kept in {kept} isn't a bound any more: {error.what}",
-            try_this=f"rm -r {kept}: the next search makes one anew",
-        ) from None
+        raise _no_bound(bound[1], error.what) from None
+
+
+def _no_bound(certificate: Path, said: str) -> kept_json.Damaged:
+    """The error of a bound that isn't what `pit` says of its certificate."""
+    kept = certificate.parent
+    return kept_json.Damaged(
+        f"what is kept in {kept} isn't a bound any more: {said}",
+        try_this=f"rm -r {kept}: the next search finds a bound anew",
+    )
 
 
 def _refuse_other(
@@ -175,8 +180,8 @@ def _refuse_other(
     """
     npv = Decimal(worth) / MILLION
     is_so = answer.is_feasible and answer.count == count and Decimal(answer.npv) == npv
-    if is_so and bound and has_bound:
-        is_so = answer.bound == bound[0].said and answer.gap is not None
+    if is_so and bound and has_bound and (answer.bound != bound[0].said or not answer.gap):
+        raise _no_bound(bound[1], f"pit schedule says {answer.bound}, and not {bound[0].said}")
     if not is_so:
         raise Disagreement(
             f"pit schedule says {counted(answer.count, 'block')}, {answer.npv},"

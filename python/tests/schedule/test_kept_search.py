@@ -1,20 +1,27 @@
 """What is kept of a search, damaged."""
 import gzip
+import json
 import shutil
 import subprocess
 import sys
 
 import pytest
 
-from pitplan import PlanError
+from pitplan import PlanError, Study
+from pitplan.base.kept_json import Damaged
 from pitplan.pit.program import Pit
+from pitplan.schedule import Schedule
+from pitplan.study.study_file import read_study_file
 from planned import PITPLAN, built, run, scheduled
+
+
+WITHIN = (0.05, 600)  # it ends once the gap is at most 5 %, on a busy machine too
 
 
 @pytest.fixture(scope="module")
 def study(tmp_path_factory):
     folder = built(tmp_path_factory.mktemp("kept") / "s")
-    scheduled(folder, (0.05, 5))
+    scheduled(folder, WITHIN)
     return folder
 
 
@@ -38,7 +45,23 @@ def test_what_is_damaged_is_told(study, kept):
     with pytest.raises(PlanError, match="bound.json is gone"):
         scheduled(study)
     shutil.rmtree(path.parent)
-    assert scheduled(study, (0.05, 5)).closures >= 1
+    assert scheduled(study, WITHIN).closures >= 1
+
+
+def last_of(study):
+    plan = read_study_file(study)
+    return Schedule.last(Study(study).shells(plan.factors), plan.values["schedule"], plan.rates)
+
+
+@pytest.mark.parametrize(
+    "change", [{"multipliers": [[0] * 5 + [10**6], [0] * 6]}, {"said": "0" * 64}]
+)
+def test_a_bound_that_pit_says_otherwise_is_told_by_its_folder(study, kept, change):
+    path = kept / "bound" / "bound.json"
+    path.write_text(json.dumps(json.loads(path.read_text()) | change))
+    with pytest.raises(Damaged, match="isn't a bound any more: pit schedule") as told:
+        last_of(study)
+    assert told.value.try_this == f"rm -r {path.parent}: the next search finds a bound anew"
 
 
 def flipped(data, at):
@@ -72,7 +95,7 @@ def test_a_damaged_file_is_told_by_its_name(study, kept, name, damage):
     assert what == ["rm", "-r", str(kept / "bound"), *[str(path)] * bool(is_schedule)]
     if damage is None or not path.read_bytes():
         subprocess.run(what, check=True)
-        assert scheduled(study, (0.05, 5)).gap < 5
+        assert scheduled(study, WITHIN).gap < 5
 
 
 def test_status_tells_a_schedule_that_is_gone_as_the_search_does(study, kept):
