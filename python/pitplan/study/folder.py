@@ -158,6 +158,11 @@ class StudyFolder:
     def priced(self) -> Priced:
         priced = store.load_priced(self.where / "blocks.npz")
         self._refuse_other_count(len(priced.mining))
+        if priced.grade.keys() != self.manifest["metals"].keys():
+            raise kept_json.Damaged(
+                f"{self.where / 'manifest.json'} names other metals than blocks.npz beside it",
+                try_this=command("build", self.named),
+            )
         return priced
 
     @cached_property

@@ -74,6 +74,15 @@ def test_a_manifest_of_another_number_of_blocks_is_told(made, blocks):
             getattr(StudyFolder(made.folder), name)
 
 
+@pytest.mark.parametrize("change", [lambda metals: {}, lambda metals: {"tin": metals["copper"]}])
+def test_a_manifest_of_other_metals_is_told(made, change):
+    path = made.where / "manifest.json"
+    facts = json.loads(path.read_text())
+    path.write_text(json.dumps(facts | {"metals": change(facts["metals"])}))
+    with pytest.raises(Damaged, match="manifest.json names other metals"):
+        StudyFolder(made.folder).priced
+
+
 @pytest.mark.parametrize("name", ["mine.blocks", "settings.toml", "blocks.npz"])
 def test_files_are_those_that_the_build_made(made, name):
     StudyFolder(made.folder).verify()
