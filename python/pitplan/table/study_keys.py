@@ -327,6 +327,7 @@ KEYS = (
         "Lines to skip",
         "below the header",
         least=0,
+        most=1000,
         is_written=False,
     ),
     Key(

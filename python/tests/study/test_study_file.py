@@ -56,7 +56,12 @@ WRONG = [
     (
         "size = [20, 20, 15]",
         "size = [20, 20, 15]\nskip = -1",
-        "skip is -1, and has to be a whole number of at least 0",
+        "skip is -1, and has to be a whole number from 0 to 1,000",
+    ),
+    (
+        "size = [20, 20, 15]",
+        "size = [20, 20, 15]\nskip = 9223372036854775807",
+        "skip is 9223372036854775807, and has to be a whole number from 0 to 1,000",
     ),
 ]
 
