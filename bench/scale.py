@@ -558,7 +558,7 @@ def show_limits(case):
         ["limit", "", "of"],
         [
             [
-                "predecessors a block that fit into the pairs that pit takes",
+                "predecessors a block that fit into the pairs that pit lists",
                 f"{case.pairs / BLOCKS:.1f}",
                 f"{PAIRS / BLOCKS:.1f}",
             ],

@@ -156,6 +156,13 @@ class StudyFolder:
 
     @cached_property
     def priced(self) -> Priced:
+        """What each block brings and costs.
+
+        Raises
+        ------
+        Damaged
+            Where the manifest is of another number of blocks, or of other metals.
+        """
         priced = store.load_priced(self.where / "blocks.npz")
         self._refuse_other_count(len(priced.mining))
         if priced.grade.keys() != self.manifest["metals"].keys():
